@@ -1,0 +1,43 @@
+-- What a test that came out true or false says. Assumes nothing.
+use mathlib.Core.Path.{_≡_, refl, sym, _∙_}
+use mathlib.Core.Logic.{_⊎_, inl, inr}
+use mathlib.Core.Bool.{Bool, true, false, not, _&&_, true≢false, false≢true}
+use Prim.Native.Nat.{ℕ, _≤_}
+use borrow.Author.Tests.{not-true, not-false, leb-true, le-leb}
+use lib.Dec.{leb}
+use Rattle.laws.specs.Test.{within}
+
+pub true-or-false : (b : Bool) → (b ≡ true) ⊎ (b ≡ false)
+true-or-false true = inl refl
+true-or-false false = inr refl
+
+pub not-both : {b : Bool} → b ≡ true → b ≡ false → ⊥
+not-both t f = true≢false (sym t ∙ f)
+
+pub and-left : (a b : Bool) → a && b ≡ true → a ≡ true
+and-left true b e = refl
+and-left false b e = e
+
+pub and-right : (a b : Bool) → a && b ≡ true → b ≡ true
+and-right true b e = e
+and-right false b e = absurd (false≢true e)
+
+-- a callee's flag q, which is the test b, taken the other way round by `!`
+pub was-false : {q b : Bool} → q ≡ b → not q ≡ true → b ≡ false
+was-false {q} e h = sym e ∙ not-true q h
+
+pub was-true : {q b : Bool} → q ≡ b → not q ≡ false → b ≡ true
+was-true {q} e h = sym e ∙ not-false q h
+
+module _ (lo x hi : ℕ) where
+  pub within-low : within lo x hi ≡ true → lo ≤ x
+  unfolding within
+  within-low e = leb-true lo x (and-left (leb lo x) (leb x hi) e)
+
+  pub within-high : within lo x hi ≡ true → x ≤ hi
+  unfolding within
+  within-high e = leb-true x hi (and-right (leb lo x) (leb x hi) e)
+
+  pub within-is : lo ≤ x → x ≤ hi → within lo x hi ≡ true
+  unfolding within
+  within-is a b = rw (le-leb lo x a, le-leb x hi b)

@@ -1,0 +1,19 @@
+-- Questions before work, and what a call answers to them.
+-- Document 01, "Questions before work": the first "no" gives its number.
+use Prim.Native.Nat.{ℕ}
+use mathlib.Core.Bool.{Bool, cond}
+use lib.Dec.{eqb}
+
+-- One question and those after it: the question's number if its answer is no, and else what the others come to.
+-- A row of questions ends in 0, so it comes to the number of the first whose answer is no, or to 0.
+unfoldable pub ask : Bool → ℕ → ℕ → ℕ
+ask yes? number others = cond yes? others number
+
+-- What a call answers: the value of an accepted call, or the number and what a refusal gives back.
+pub data Answer (A B : Type 0) : Type 0 where
+  accepted : A → Answer A B
+  refused : ℕ → B → Answer A B
+
+-- the answer of a call whose questions come to q
+unfoldable pub answer : {A B : Type 0} → ℕ → A → B → Answer A B
+answer q value back = cond (eqb q 0) (accepted value) (refused q back)

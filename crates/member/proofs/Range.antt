@@ -1,0 +1,129 @@
+-- A member in range, in plain facts on its numbers, both ways. Assumes nothing.
+use mathlib.Core.Path.{_≡_, refl, sym, _∙_}
+use mathlib.Core.Logic.{_⊎_, inl, inr}
+use mathlib.Core.Bool.{Bool, true, false, cond, _&&_}
+use Prim.Native.Nat.{ℕ, _+_, _-_, _≤_, _<_}
+use native.Mathlib.Omega.{arith}
+use borrow.Author.Tests.{eqb-true, eq-eqb, ne-eqb, leb-true, le-leb}
+use lib.Dec.{leb, eqb}
+use Rattle.laws.specs.Test.{within}
+use Rattle.laws.specs.Answer.{ask}
+use Rattle.laws.proofs.Test.{true-or-false, and-left, and-right, within-low, within-high, within-is}
+use Rattle.laws.proofs.Answer.{passed}
+use Rattle.member.specs.declared.Member.{Member}
+use Rattle.member.specs.Opening.{openQuestion}
+use Rattle.member.specs.State.{undecided, limits, placed, inRange, stopped}
+
+-- n, t, own number and estimate (or vote) are within their limits.
+pub record Limits (limit n t id value : ℕ) : Type 0 where
+  pub n-low : 4 ≤ n
+  pub n-high : n ≤ limit
+  pub t-low : 3 ≤ t
+  pub t-high : t < n
+  pub id-low : 1 ≤ id
+  pub id-high : id ≤ n
+  pub value-high : value ≤ 1
+
+module _ (limit n t id value : ℕ) where
+  pub open-limits : openQuestion limit n t id value ≡ 0 → Limits limit n t id value
+  unfolding openQuestion
+  open-limits e =
+      let p1 = passed (within 4 n limit) 1 _ (omega arith) e in
+      let p2 = passed (within 3 t (n - 1)) 2 _ (omega arith) (p1 .1) in
+      let p3 = passed (within 1 id n) 10 _ (omega arith) (p2 .1) in
+      let p4 = passed (leb value 1) 4 _ (omega arith) (p3 .1) in
+      let n-low = within-low _ _ _ (p1 .0) in
+      let t-high = within-high _ _ _ (p2 .0) in
+      record {
+        n-low = n-low;
+        n-high = within-high _ _ _ (p1 .0);
+        t-low = within-low _ _ _ (p2 .0);
+        t-high = omega arith;
+        id-low = within-low _ _ _ (p3 .0);
+        id-high = within-high _ _ _ (p3 .0);
+        value-high = leb-true _ _ (p4 .0);
+      }
+
+  pub limits-open : Limits limit n t id value → openQuestion limit n t id value ≡ 0
+  unfolding openQuestion ask
+  limits-open l =
+      rw (
+        within-is 4 n limit (l .n-low) (l .n-high),
+        within-is 3 t (n - 1) (l .t-low) (omega arith),
+        within-is 1 id n (l .id-low) (l .id-high),
+        le-leb value 1 (l .value-high),
+      )
+
+-- The round and the decided round of a member in range.
+pub data Place (m : Member) : Type 0 where
+  waiting : m .decided ≡ 0 → 1 ≤ m .round → m .round ≤ m .t + 1 → Place m
+  settled : 2 ≤ m .decided → m .decided ≤ m .t + 1 → m .decided + 1 ≤ m .round → m .round ≤ m .decided + 2 → m .round ≤ m .t + 2 → Place m
+
+module _ (m : Member) where
+  abbrev first : Bool
+  first = within 2 (m .decided) (m .t + 1)
+
+  abbrev second : Bool
+  second = within (m .decided + 1) (m .round) (m .decided + 2)
+
+  abbrev third : Bool
+  third = leb (m .round) (m .t + 2)
+
+  pub placed-place : placed m ≡ true → Place m
+  unfolding placed
+  placed-place e =
+      elim (true-or-false (eqb (m .decided) 0)) [
+        | inl u ↦ let w = rw u at e in waiting (eqb-true (m .decided) 0 u) (within-low 1 (m .round) (m .t + 1) w) (within-high 1 (m .round) (m .t + 1) w)
+        | inr d ↦
+            let w = rw d at e in
+            let a = and-left first (second && third) w in
+            let b = and-right first (second && third) w in
+            let b1 = and-left second third b in
+            settled (within-low 2 (m .decided) (m .t + 1) a) (within-high 2 (m .decided) (m .t + 1) a)
+            (within-low (m .decided + 1) (m .round) (m .decided + 2) b1) (within-high (m .decided + 1) (m .round) (m .decided + 2) b1)
+            (leb-true (m .round) (m .t + 2) (and-right second third b))
+      ]
+
+  -- the last test of a decided member that passed the others
+  pub placed-last : (m .decided ≡ 0 → ⊥) → first ≡ true → second ≡ true → third ≡ placed m
+  unfolding placed
+  placed-last d a b = rw (ne-eqb (m .decided) 0 d, a, b)
+
+  pub place-placed : Place m → placed m ≡ true
+  unfolding placed
+  place-placed (waiting u lo hi) = rw (eq-eqb (m .decided) 0 u, within-is 1 (m .round) (m .t + 1) lo hi)
+  place-placed (settled d1 d2 r1 r2 r3) =
+      rw (
+        ne-eqb (m .decided) 0 (λ z. omega arith),
+        within-is 2 (m .decided) (m .t + 1) d1 d2,
+        within-is (m .decided + 1) (m .round) (m .decided + 2) r1 r2,
+        le-leb (m .round) (m .t + 2) r3,
+      )
+
+-- In range, whole.
+pub record Ranged (limit : ℕ) (m : Member) : Type 0 where
+  pub bounds : Limits limit (m .n) (m .t) (m .id) (m .estimate)
+  pub place : Place m
+  pub round-low : 1 ≤ m .round
+  pub round-high : m .round ≤ m .t + 2
+  pub decided-high : m .decided ≤ m .t + 1
+
+module _ (limit : ℕ) (m : Member) where
+  pub ranged : Limits limit (m .n) (m .t) (m .id) (m .estimate) → Place m → Ranged limit m
+  ranged l (waiting u a b) = record { bounds = l; place = waiting u a b; round-low = a; round-high = omega arith; decided-high = omega arith }
+  ranged l (settled a b c d e) = record { bounds = l; place = settled a b c d e; round-low = omega arith; round-high = e; decided-high = b }
+
+  pub in-range-ranged : inRange limit m ≡ true → Ranged limit m
+  unfolding inRange limits
+  in-range-ranged e =
+      let l = and-left (limits limit m) (placed m) e in
+      ranged (open-limits limit (m .n) (m .t) (m .id) (m .estimate) (eqb-true _ 0 l)) (placed-place m (and-right (limits limit m) (placed m) e))
+
+  pub ranged-in-range : Ranged limit m → inRange limit m ≡ true
+  unfolding inRange limits
+  ranged-in-range r = rw (limits-open limit (m .n) (m .t) (m .id) (m .estimate) (r .bounds), place-placed m (r .place))
+
+-- the last test of a member that is not in round t + 2
+pub stopped-last : (m : Member) → (m .round ≡ m .t + 2 → ⊥) → (m .decided ≡ 0 → ⊥) → eqb (m .round) (m .decided + 2) ≡ stopped m
+unfolding stopped
+stopped-last m r d = rw (ne-eqb (m .round) (m .t + 2) r, ne-eqb (m .decided) 0 d)

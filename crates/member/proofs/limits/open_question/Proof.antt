@@ -1,0 +1,82 @@
+-- `open_question` meets its contract: each question that is passed goes on to the next. Assumes nothing.
+use native.Mathlib.Omega.{arith}
+use borrow.Author.Needs.{needs}
+use borrow.Author.Tests.{le-leb, lt-leb}
+use Rattle.laws.specs.Answer.{ask}
+use Rattle.laws.proofs.Test.{was-false, was-true, within-low}
+use Rattle.member.specs.Opening.{openQuestion}
+use Rattle.member.proofs.limits.open_question.Statement.{statement}
+use Rattle.member.proofs.limits.open_question.Tie as tie
+
+is-within-requires : tie.Need-is-within-requires
+is-within-requires c κs = search needs
+
+returns : tie.Need-returns
+unfolding openQuestion ask
+returns c = simp (was-false (c .before .is-within .ensures) (c .if1 .taken))
+
+sub-is-within : tie.Need-sub-is-within
+sub-is-within c = omega (arith, within-low _ _ _ (was-true (c .before .is-within .ensures) (c .if1 .left)))
+
+is-within-requires-2 : tie.Need-is-within-requires-2
+is-within-requires-2 c κs = search needs
+
+returns-2 : tie.Need-returns-2
+unfolding openQuestion ask
+returns-2 c =
+    let c1 = c .before .before in
+    simp (was-true (c1 .before .is-within .ensures) (c1 .if1 .left), was-false (c .before .is-within2 .ensures) (c .if2 .taken))
+
+is-within-requires-3 : tie.Need-is-within-requires-3
+is-within-requires-3 c κs = search needs
+
+returns-3 : tie.Need-returns-3
+unfolding openQuestion ask
+returns-3 c =
+    let c2 = c .before .before in
+    let c1 = c2 .before .before in
+    simp (
+      was-true (c1 .before .is-within .ensures) (c1 .if1 .left),
+      was-true (c2 .before .is-within2 .ensures) (c2 .if2 .left),
+      was-false (c .before .is-within3 .ensures) (c .if3 .taken),
+    )
+
+returns-4 : tie.Need-returns-4
+unfolding openQuestion ask
+returns-4 c =
+    let c3 = c .before in
+    let c2 = c3 .before .before in
+    let c1 = c2 .before .before in
+    simp (
+      was-true (c1 .before .is-within .ensures) (c1 .if1 .left),
+      was-true (c2 .before .is-within2 .ensures) (c2 .if2 .left),
+      was-true (c3 .before .is-within3 .ensures) (c3 .if3 .left),
+      lt-leb _ _ (c .if4 .taken),
+    )
+
+returns-5 : tie.Need-returns-5
+unfolding openQuestion ask
+returns-5 c =
+    let c3 = c .before in
+    let c2 = c3 .before .before in
+    let c1 = c2 .before .before in
+    simp (
+      was-true (c1 .before .is-within .ensures) (c1 .if1 .left),
+      was-true (c2 .before .is-within2 .ensures) (c2 .if2 .left),
+      was-true (c3 .before .is-within3 .ensures) (c3 .if3 .left),
+      le-leb _ _ (c .if4 .left),
+    )
+
+pub open-question-spec : {M : Type 1} → statement M
+open-question-spec =
+    tie.close
+    (tie.spec
+    is-within-requires
+    returns
+    sub-is-within
+    is-within-requires-2
+    returns-2
+    is-within-requires-3
+    returns-3
+    returns-4
+    returns-5)

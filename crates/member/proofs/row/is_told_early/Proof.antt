@@ -1,0 +1,20 @@
+-- `is_told_early` meets its contract. Assumes nothing.
+use borrow.Author.Tests.{le-leb, lt-leb}
+use Rattle.member.specs.Hearing.{toldEarly}
+use borrow.Author.Needs.{needs}
+use Rattle.member.proofs.row.is_told_early.Statement.{statement}
+use Rattle.member.proofs.row.is_told_early.Tie as tie
+
+is-told-requires : tie.Need-is-told-requires
+is-told-requires c κs = search needs
+
+returns : tie.Need-returns
+unfolding toldEarly
+returns c = simp (le-leb _ _ (c .before .if1 .taken)) (c .is-told .ensures)
+
+returns-2 : tie.Need-returns-2
+unfolding toldEarly
+returns-2 c = simp (lt-leb _ _ (c .if1 .left))
+
+pub is-told-early-spec : {M : Type 1} → statement M
+is-told-early-spec = tie.close (tie.spec is-told-requires returns returns-2)

@@ -1,0 +1,26 @@
+-- `is_enough` meets its contract. Assumes nothing.
+use Rattle.member.specs.Hearing.{enough}
+use borrow.Author.Tests.{eq-eqb, ne-eqb}
+use borrow.Author.Needs.{needs}
+use Rattle.member.proofs.rules.is_enough.Statement.{statement}
+use Rattle.member.proofs.rules.is_enough.Tie as tie
+
+sub-result : tie.Need-sub-result
+sub-result c = search needs
+
+add-result : tie.Need-add-result
+add-result c = search needs
+
+add-result-2 : tie.Need-add-result-2
+add-result-2 c = search needs
+
+returns : tie.Need-returns
+unfolding enough
+returns c = simp (eq-eqb _ _ (c .before .if1 .taken))
+
+returns-2 : tie.Need-returns-2
+unfolding enough
+returns-2 c = simp (ne-eqb _ _ (c .if1 .left))
+
+pub is-enough-spec : {M : Type 1} → statement M
+is-enough-spec = tie.close (tie.spec sub-result add-result add-result-2 returns returns-2)

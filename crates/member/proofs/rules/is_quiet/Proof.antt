@@ -1,0 +1,29 @@
+-- `is_quiet` meets its contract. Assumes nothing.
+use Rattle.member.specs.Hearing.{quiet}
+use borrow.Author.Tests.{le-leb, lt-leb}
+use borrow.Author.Needs.{needs}
+use Rattle.member.proofs.rules.is_quiet.Statement.{statement}
+use Rattle.member.proofs.rules.is_quiet.Tie as tie
+
+sub-if1 : tie.Need-sub-if1
+sub-if1 c = search needs
+
+add-result : tie.Need-add-result
+add-result c = search needs
+
+sub-result : tie.Need-sub-result
+sub-result c = search needs
+
+sub-result-2 : tie.Need-sub-result-2
+sub-result-2 c = search needs
+
+returns : tie.Need-returns
+unfolding quiet
+returns c = simp (le-leb _ _ (c .before .if1 .taken))
+
+returns-2 : tie.Need-returns-2
+unfolding quiet
+returns-2 c = simp (lt-leb _ _ (c .if1 .left))
+
+pub is-quiet-spec : {M : Type 1} → statement M
+is-quiet-spec = tie.close (tie.spec sub-if1 add-result sub-result sub-result-2 returns returns-2)

@@ -1,0 +1,16 @@
+-- `is_zeros_only` meets its contract. Assumes nothing.
+use Rattle.member.specs.Hearing.{zerosOnly}
+use borrow.Author.Tests.{eq-eqb, ne-eqb}
+use Rattle.member.proofs.rules.is_zeros_only.Statement.{statement}
+use Rattle.member.proofs.rules.is_zeros_only.Tie as tie
+
+returns : tie.Need-returns
+unfolding zerosOnly
+returns c = simp (eq-eqb _ _ (c .before .if1 .taken))
+
+returns-2 : tie.Need-returns-2
+unfolding zerosOnly
+returns-2 c = simp (ne-eqb _ _ (c .if1 .left))
+
+pub is-zeros-only-spec : {M : Type 1} → statement M
+is-zeros-only-spec = tie.close (tie.spec returns returns-2)

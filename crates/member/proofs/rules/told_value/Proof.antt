@@ -1,0 +1,16 @@
+-- `told_value` meets its contract. Assumes nothing.
+use Rattle.member.specs.Hearing.{toldValue}
+use borrow.Author.Tests.{lt-ltb, le-ltb}
+use Rattle.member.proofs.rules.told_value.Statement.{statement}
+use Rattle.member.proofs.rules.told_value.Tie as tie
+
+returns : tie.Need-returns
+unfolding toldValue
+returns c = simp (lt-ltb _ _ (c .if1 .taken))
+
+returns-2 : tie.Need-returns-2
+unfolding toldValue
+returns-2 c = simp (le-ltb _ _ (c .if1 .left))
+
+pub told-value-spec : {M : Type 1} → statement M
+told-value-spec = tie.close (tie.spec returns returns-2)

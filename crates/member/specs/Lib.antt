@@ -1,0 +1,6 @@
+pub mod Opening
+pub mod State
+pub mod Saying
+pub mod Hearing
+pub mod Questions
+pub mod Answers

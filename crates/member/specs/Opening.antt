@@ -1,0 +1,23 @@
+-- Opening a member: the state that it starts in, and the questions before it.
+use Prim.Native.Nat.{ℕ, _-_}
+use lib.Dec.{leb}
+use Rattle.laws.specs.Test.{within}
+use Rattle.laws.specs.Answer.{ask}
+use Rattle.member.specs.declared.Member.{Member}
+
+-- The largest n that is accepted. Nothing but acceptance reads it: every definition is for any n and t, and takes the limit as a parameter where it asks for it.
+abbrev pub largest : ℕ
+largest = 32
+
+-- "Opening: round 1, estimate = vote, undecided."
+abbrev pub opening : ℕ → ℕ → ℕ → ℕ → Member
+opening n t id vote = record { n = n; t = t; id = id; round = 1; estimate = vote; decided = 0 }
+
+-- "Opening: 1, 2, own number from 1 to n? 10, 4."
+unfoldable pub openQuestion : ℕ → ℕ → ℕ → ℕ → ℕ → ℕ
+openQuestion limit n t id vote =
+    ask (within 4 n limit) 1
+    (ask (within 3 t (n - 1)) 2
+    (ask (within 1 id n) 10
+    (ask (leb vote 1) 4
+    0)))

@@ -1,0 +1,110 @@
+// One process of FCWFA (document 01, "One member"): what a machine of the cluster runs.
+//
+// `open` gives the state of a new member, `say` the code that it sends in the round to come, and
+// `hear` the state after a row of codes. The state goes in and comes back by value. Each of the three
+// takes anything and answers what specs/Answers.antt gives, refusals too; none has a `requires`.
+mod limits;
+mod row;
+mod rules;
+mod state;
+
+ghost use mathlib.Core.Path.{_≡_};
+ghost use Rattle.member.specs.Opening.{largest};
+ghost use Rattle.member.specs.Answers.{openedIs, openAnswer, saidIs, sayAnswer, heardIs, hearAnswer};
+
+// The state of a member. `id` is its own number, `round` the round to play next, and `decided` the
+// round in which it decided, 0 while it has not. Once it has, `estimate` is the decision.
+pub struct Member {
+    pub n: u8,
+    pub t: u8,
+    pub id: u8,
+    pub round: u8,
+    pub estimate: u8,
+    pub decided: u8,
+}
+
+// How often each kind of code stands in a row: estimates 0 and 1, decided messages with 0 (aborts)
+// and with 1 (commits), and what is no code.
+pub struct Tally {
+    pub zeros: u8,
+    pub ones: u8,
+    pub aborts: u8,
+    pub commits: u8,
+    pub others: u8,
+}
+
+// The rule by which an undecided member decides: told by a decided message, zeros only in round 2, a
+// quiet round, enough estimates in round t, the last round, or none.
+pub enum Rule {
+    Told,
+    ZerosOnly,
+    Quiet,
+    RoundT,
+    LastRound,
+    NoRule,
+}
+
+// The opened state, or the number of the first question whose answer is no.
+pub enum Opened {
+    Started(Member),
+    Refused(u8),
+}
+
+// The code that the member says, or the number.
+pub enum Said {
+    Code(u8),
+    Refused(u8),
+}
+
+// The state after the row, or the number and the state given.
+pub enum Heard {
+    Moved(Member),
+    Refused(u8, Member),
+}
+
+pub fn open(n: usize, t: usize, id: usize, vote: u8) -> Opened
+    ensures answered { λ r. ⌜ openedIs r ≡ openAnswer largest n t id vote ⌝ }
+{
+    let question = limits::open_question(n, t, id, vote);
+    if question != 0 {
+        return Opened::Refused(question);
+    }
+    Opened::Started(Member {
+        n: n as u8,
+        t: t as u8,
+        id: id as u8,
+        round: 1,
+        estimate: vote,
+        decided: 0,
+    })
+}
+
+pub fn say(m: Member) -> Said
+    ensures answered { λ r. ⌜ saidIs r ≡ sayAnswer largest m ⌝ }
+{
+    if !state::is_in_range(m) {
+        return Said::Refused(11);
+    }
+    Said::Code(state::code(m))
+}
+
+pub fn hear(m: Member, row: &[u8]) -> Heard
+    ensures answered { λ r. ⌜ heardIs r ≡ hearAnswer largest m (now (row .entry)) ⌝ }
+{
+    if !state::is_in_range(m) {
+        return Heard::Refused(11, m);
+    }
+    if state::is_stopped(m) {
+        return Heard::Refused(12, m);
+    }
+    if row.len() != m.n as usize {
+        return Heard::Refused(13, m);
+    }
+    let place = (m.id - 1) as usize;
+    let counts = row::tally(row);
+    let question = row::row_question(m, row[place], counts);
+    if question != 0 {
+        return Heard::Refused(question, m);
+    }
+    Heard::Moved(rules::next(m, counts))
+}

@@ -1,0 +1,69 @@
+// What a state says: whether it is in range, whether it has stopped, and the code that it sends.
+ghost use mathlib.Core.Path.{_≡_};
+ghost use mathlib.Core.Bool.{true};
+ghost use Rattle.member.specs.Opening.{largest};
+ghost use Rattle.member.specs.State.{limits, placed, inRange, stopped};
+ghost use Rattle.member.specs.Saying.{says};
+use crate::Member;
+use crate::limits::open_question;
+use laws::is_within;
+
+// Whether n, t, own number and estimate are within their limits: the questions of opening.
+fn has_limits(m: Member) -> bool
+    ensures tested { λ r. ⌜ r ≡ limits largest m ⌝ }
+{
+    open_question(m.n as usize, m.t as usize, m.id as usize, m.estimate) == 0
+}
+
+// Whether the round and the decided round fit together.
+fn is_placed(m: Member) -> bool
+    ensures tested { λ r. ⌜ r ≡ placed m ⌝ }
+{
+    let t = m.t as usize;
+    let round = m.round as usize;
+    let decided = m.decided as usize;
+    if decided == 0 {
+        return is_within(1, round, t + 1);
+    }
+    if !is_within(2, decided, t + 1) {
+        return false;
+    }
+    if !is_within(decided + 1, round, decided + 2) {
+        return false;
+    }
+    round <= t + 2
+}
+
+pub fn is_in_range(m: Member) -> bool
+    ensures tested { λ r. ⌜ r ≡ inRange largest m ⌝ }
+{
+    has_limits(m) && is_placed(m)
+}
+
+pub fn is_stopped(m: Member) -> bool
+    ensures tested { λ r. ⌜ r ≡ stopped m ⌝ }
+{
+    let round = m.round as usize;
+    let decided = m.decided as usize;
+    if round == m.t as usize + 2 {
+        return true;
+    }
+    if decided == 0 {
+        return false;
+    }
+    round == decided + 2
+}
+
+// The code that a member in range says.
+pub fn code(m: Member) -> u8
+    requires in_range { ⌜ inRange largest m ≡ true ⌝ }
+    ensures said { λ r. ⌜ r ≡ says m ⌝ }
+{
+    if is_stopped(m) {
+        return 0;
+    }
+    if m.decided == 0 {
+        return 1 + m.estimate;
+    }
+    3 + m.estimate
+}
