@@ -1,3 +1,5 @@
 pub mod Range
 pub mod Counts
 pub mod Deciding
+pub mod Asked
+pub mod Promises

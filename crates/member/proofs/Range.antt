@@ -1,18 +1,18 @@
 -- A member in range, in plain facts on its numbers, both ways. Assumes nothing.
 use mathlib.Core.Path.{_≡_, refl, sym, _∙_}
-use mathlib.Core.Logic.{_⊎_, inl, inr}
-use mathlib.Core.Bool.{Bool, true, false, cond, _&&_}
+use mathlib.Core.Logic.{_⊎_, inl, inr, _≢_}
+use mathlib.Core.Bool.{Bool, true, false, cond, not, _&&_}
 use Prim.Native.Nat.{ℕ, _+_, _-_, _≤_, _<_}
 use native.Mathlib.Omega.{arith}
-use borrow.Author.Tests.{eqb-true, eq-eqb, ne-eqb, leb-true, le-leb}
+use borrow.Author.Tests.{eqb-true, eqb-false, eq-eqb, ne-eqb, leb-true, le-leb}
 use lib.Dec.{leb, eqb}
 use Rattle.laws.specs.Test.{within}
 use Rattle.laws.specs.Answer.{ask}
-use Rattle.laws.proofs.Test.{true-or-false, and-left, and-right, within-low, within-high, within-is}
+use Rattle.laws.proofs.Test.{true-or-false, and-left, and-right, or-false, within-low, within-high, within-is}
 use Rattle.laws.proofs.Answer.{passed}
 use Rattle.member.specs.declared.Member.{Member}
 use Rattle.member.specs.Opening.{openQuestion}
-use Rattle.member.specs.State.{undecided, limits, placed, inRange, stopped}
+use Rattle.member.specs.State.{undecided, inLimits, placed, inRange, stopped}
 
 -- n, t, own number and estimate (or vote) are within their limits.
 pub record Limits (limit n t id value : ℕ) : Type 0 where
@@ -114,16 +114,30 @@ module _ (limit : ℕ) (m : Member) where
   ranged l (settled a b c d e) = record { bounds = l; place = settled a b c d e; round-low = omega arith; round-high = e; decided-high = b }
 
   pub in-range-ranged : inRange limit m ≡ true → Ranged limit m
-  unfolding inRange limits
+  unfolding inRange inLimits
   in-range-ranged e =
-      let l = and-left (limits limit m) (placed m) e in
-      ranged (open-limits limit (m .n) (m .t) (m .id) (m .estimate) (eqb-true _ 0 l)) (placed-place m (and-right (limits limit m) (placed m) e))
+      let l = and-left (inLimits limit m) (placed m) e in
+      ranged (open-limits limit (m .n) (m .t) (m .id) (m .estimate) (eqb-true _ 0 l)) (placed-place m (and-right (inLimits limit m) (placed m) e))
 
   pub ranged-in-range : Ranged limit m → inRange limit m ≡ true
-  unfolding inRange limits
+  unfolding inRange inLimits
   ranged-in-range r = rw (limits-open limit (m .n) (m .t) (m .id) (m .estimate) (r .bounds), place-placed m (r .place))
 
 -- the last test of a member that is not in round t + 2
 pub stopped-last : (m : Member) → (m .round ≡ m .t + 2 → ⊥) → (m .decided ≡ 0 → ⊥) → eqb (m .round) (m .decided + 2) ≡ stopped m
 unfolding stopped
 stopped-last m r d = rw (ne-eqb (m .round) (m .t + 2) r, ne-eqb (m .decided) 0 d)
+
+-- a member that has not stopped
+pub record Running (m : Member) : Type 0 where
+  pub not-over : m .round ≢ m .t + 2
+  pub not-done : m .decided ≢ 0 → m .round ≢ m .decided + 2
+
+pub running : (m : Member) → stopped m ≡ false → Running m
+unfolding stopped
+running m e =
+    let h = or-false (eqb (m .round) (m .t + 2)) (not (eqb (m .decided) 0) && eqb (m .round) (m .decided + 2)) e in
+    record {
+      not-over = eqb-false (m .round) (m .t + 2) (h .0);
+      not-done = λ d. eqb-false (m .round) (m .decided + 2) (rw (ne-eqb (m .decided) 0 d) at (h .1));
+    }

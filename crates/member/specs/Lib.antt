@@ -4,3 +4,4 @@ pub mod Saying
 pub mod Hearing
 pub mod Questions
 pub mod Answers
+pub mod Promises

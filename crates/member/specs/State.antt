@@ -11,8 +11,8 @@ abbrev pub undecided : Member → Bool
 undecided m = eqb (m .decided) 0
 
 -- "n, t, own number and estimate within their limits": the limits that opening asks for
-unfoldable pub limits : ℕ → Member → Bool
-limits limit m = eqb (openQuestion limit (m .n) (m .t) (m .id) (m .estimate)) 0
+unfoldable pub inLimits : ℕ → Member → Bool
+inLimits limit m = eqb (openQuestion limit (m .n) (m .t) (m .id) (m .estimate)) 0
 
 -- "undecided with a round from 1 to t + 1, or decided in d from 2 to t + 1 with a round of d + 1 or d + 2, at most t + 2"
 unfoldable pub placed : Member → Bool
@@ -22,7 +22,7 @@ placed m =
 
 -- "In range means: .."
 unfoldable pub inRange : ℕ → Member → Bool
-inRange limit m = limits limit m && placed m
+inRange limit m = inLimits limit m && placed m
 
 -- "Stopped means: round t + 2, or decided in d with round d + 2."
 unfoldable pub stopped : Member → Bool

@@ -13,7 +13,8 @@ pub fn open_question(n: usize, t: usize, id: usize, vote: u8) -> u8
     if !is_within(4, n, LARGEST) {
         return 1;
     }
-    if !is_within(3, t, n - 1) {
+    let below = n - 1;
+    if !is_within(3, t, below) {
         return 2;
     }
     if !is_within(1, id, n) {

@@ -67,10 +67,11 @@ pub fn row_question(m: Member, own: u8, k: Tally) -> u8
     requires in_range { ⌜ inRange largest m ≡ true ⌝ }
     ensures asked { λ r. ⌜ r ≡ rowQuestion m own k ⌝ }
 {
+    let says = code(m);
     if k.others != 0 {
         return 14;
     }
-    if own != code(m) {
+    if own != says {
         return 15;
     }
     if is_told_early(m.round, k) {

@@ -2,15 +2,15 @@
 ghost use mathlib.Core.Path.{_≡_};
 ghost use mathlib.Core.Bool.{true};
 ghost use Rattle.member.specs.Opening.{largest};
-ghost use Rattle.member.specs.State.{limits, placed, inRange, stopped};
+ghost use Rattle.member.specs.State.{inLimits, placed, inRange, stopped};
 ghost use Rattle.member.specs.Saying.{says};
 use crate::Member;
 use crate::limits::open_question;
 use laws::is_within;
 
 // Whether n, t, own number and estimate are within their limits: the questions of opening.
-fn has_limits(m: Member) -> bool
-    ensures tested { λ r. ⌜ r ≡ limits largest m ⌝ }
+fn is_in_limits(m: Member) -> bool
+    ensures tested { λ r. ⌜ r ≡ inLimits largest m ⌝ }
 {
     open_question(m.n as usize, m.t as usize, m.id as usize, m.estimate) == 0
 }
@@ -37,7 +37,7 @@ fn is_placed(m: Member) -> bool
 pub fn is_in_range(m: Member) -> bool
     ensures tested { λ r. ⌜ r ≡ inRange largest m ⌝ }
 {
-    has_limits(m) && is_placed(m)
+    is_in_limits(m) && is_placed(m)
 }
 
 pub fn is_stopped(m: Member) -> bool

@@ -6,6 +6,8 @@ use Rattle.laws.specs.Answer.{ask, answer, accepted}
 use Rattle.laws.proofs.Test.{was-false, was-true}
 use Rattle.member.specs.Questions.{hearQuestion}
 use Rattle.member.specs.Answers.{hearAnswer}
+use Rattle.member.specs.Opening.{largest}
+use Rattle.member.proofs.Asked.{row-refused, row-accepted}
 use Rattle.member.proofs.Range.{in-range-ranged}
 use Rattle.member.proofs.Counts.{estimates-high}
 use borrow.Author.Needs.{needs}
@@ -54,12 +56,12 @@ row-question-requires : tie.Need-row-question-requires
 row-question-requires c κs = was-true (c .before .before .before .before .before .before .before .before .is-in-range .ensures) (c .before .before .before .before .before .before .before .if1 .left)
 
 returns-4 : tie.Need-returns-4
-unfolding hearAnswer hearQuestion ask answer
 returns-4 c =
     let c3 = c .before .before .before .before .before in
     let c2 = c3 .before .before in
     let c1 = c2 .before .before in
-    simp (was-true (c1 .before .is-in-range .ensures) (c1 .if1 .left), ← c2 .before .is-stopped .ensures, c2 .if2 .left, eq-eqb _ _ (c3 .if3 .left), ← c .before .before .before .tally .ensures, ← c .before .row-question .ensures, ne-eqb _ _ (c .if4 .taken))
+    row-refused largest _ _ (was-true (c1 .before .is-in-range .ensures) (c1 .if1 .left)) (sym (c2 .before .is-stopped .ensures) ∙ c2 .if2 .left) (c3 .if3 .left) _ _
+    (c .before .before .before .tally .ensures) (c .before .row-question .ensures) (c .if4 .taken)
 
 next-requires : tie.Need-next-requires
 next-requires c κs =
@@ -70,13 +72,13 @@ next-requires c κs =
     )
 
 returns-5 : tie.Need-returns-5
-unfolding hearAnswer hearQuestion ask answer
 returns-5 c =
     let c4 = c .before in
     let c3 = c4 .before .before .before .before .before in
     let c2 = c3 .before .before in
     let c1 = c2 .before .before in
-    simp (was-true (c1 .before .is-in-range .ensures) (c1 .if1 .left), ← c2 .before .is-stopped .ensures, c2 .if2 .left, eq-eqb _ _ (c3 .if3 .left), ← c4 .before .before .before .tally .ensures, ← c4 .before .row-question .ensures, eq-eqb _ _ (c4 .if4 .left)) (ap accepted (c .next .ensures))
+    row-accepted largest _ _ (was-true (c1 .before .is-in-range .ensures) (c1 .if1 .left)) (sym (c2 .before .is-stopped .ensures) ∙ c2 .if2 .left) (c3 .if3 .left) _ _
+    (c4 .before .before .before .tally .ensures) (c4 .before .row-question .ensures) (c4 .if4 .left) _ (c .next .ensures)
 
 pub hear-spec : {M : Type 1} → statement M
 hear-spec =

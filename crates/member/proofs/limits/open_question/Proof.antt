@@ -15,8 +15,8 @@ returns : tie.Need-returns
 unfolding openQuestion ask
 returns c = simp (was-false (c .before .is-within .ensures) (c .if1 .taken))
 
-sub-is-within : tie.Need-sub-is-within
-sub-is-within c = omega (arith, within-low _ _ _ (was-true (c .before .is-within .ensures) (c .if1 .left)))
+sub-below : tie.Need-sub-below
+sub-below c = omega (arith, within-low _ _ _ (was-true (c .before .is-within .ensures) (c .if1 .left)))
 
 is-within-requires-2 : tie.Need-is-within-requires-2
 is-within-requires-2 c κs = search needs
@@ -73,7 +73,7 @@ open-question-spec =
     (tie.spec
     is-within-requires
     returns
-    sub-is-within
+    sub-below
     is-within-requires-2
     returns-2
     is-within-requires-3

@@ -1,23 +1,23 @@
 -- `row_question` meets its contract: each question that is passed goes on to the next. Assumes nothing.
+use borrow.Author.Needs.{needs}
 use borrow.Author.Tests.{eq-eqb, ne-eqb}
 use Rattle.laws.specs.Answer.{ask}
 use Rattle.member.specs.Questions.{rowQuestion}
-use borrow.Author.Needs.{needs}
 use Rattle.member.proofs.row.row_question.Statement.{statement}
 use Rattle.member.proofs.row.row_question.Tie as tie
+
+code-requires : tie.Need-code-requires
+code-requires c κs = search needs
 
 returns : tie.Need-returns
 unfolding rowQuestion ask
 returns c = simp (ne-eqb _ _ (c .if1 .taken))
 
-code-requires : tie.Need-code-requires
-code-requires c κs = search needs
-
 returns-2 : tie.Need-returns-2
 unfolding rowQuestion ask
 returns-2 c =
-    let c1 = c .before .before in
-    simp (eq-eqb _ _ (c1 .if1 .left), ← c .before .code .ensures, ne-eqb _ _ (c .if2 .taken))
+    let c1 = c .before in
+    simp (eq-eqb _ _ (c1 .if1 .left), ← c1 .before .before .code .ensures, ne-eqb _ _ (c .if2 .taken))
 
 is-told-early-requires : tie.Need-is-told-early-requires
 is-told-early-requires c κs = search needs
@@ -26,8 +26,14 @@ returns-3 : tie.Need-returns-3
 unfolding rowQuestion ask
 returns-3 c =
     let c2 = c .before .before in
-    let c1 = c2 .before .before in
-    simp (eq-eqb _ _ (c1 .if1 .left), ← c2 .before .code .ensures, eq-eqb _ _ (c2 .if2 .left), ← c .before .is-told-early .ensures, c .if3 .taken)
+    let c1 = c2 .before in
+    simp (
+      eq-eqb _ _ (c1 .if1 .left),
+      ← c1 .before .before .code .ensures,
+      eq-eqb _ _ (c2 .if2 .left),
+      ← c .before .is-told-early .ensures,
+      c .if3 .taken,
+    )
 
 is-told-both-requires : tie.Need-is-told-both-requires
 is-told-both-requires c κs = search needs
@@ -37,23 +43,39 @@ unfolding rowQuestion ask
 returns-4 c =
     let c3 = c .before .before in
     let c2 = c3 .before .before in
-    let c1 = c2 .before .before in
-    simp (eq-eqb _ _ (c1 .if1 .left), ← c2 .before .code .ensures, eq-eqb _ _ (c2 .if2 .left), ← c3 .before .is-told-early .ensures, c3 .if3 .left, ← c .before .is-told-both .ensures, c .if4 .taken)
+    let c1 = c2 .before in
+    simp (
+      eq-eqb _ _ (c1 .if1 .left),
+      ← c1 .before .before .code .ensures,
+      eq-eqb _ _ (c2 .if2 .left),
+      ← c3 .before .is-told-early .ensures,
+      c3 .if3 .left,
+      ← c .before .is-told-both .ensures,
+      c .if4 .taken,
+    )
 
 returns-5 : tie.Need-returns-5
 unfolding rowQuestion ask
 returns-5 c =
     let c3 = c .before .before in
     let c2 = c3 .before .before in
-    let c1 = c2 .before .before in
-    simp (eq-eqb _ _ (c1 .if1 .left), ← c2 .before .code .ensures, eq-eqb _ _ (c2 .if2 .left), ← c3 .before .is-told-early .ensures, c3 .if3 .left, ← c .before .is-told-both .ensures, c .if4 .left)
+    let c1 = c2 .before in
+    simp (
+      eq-eqb _ _ (c1 .if1 .left),
+      ← c1 .before .before .code .ensures,
+      eq-eqb _ _ (c2 .if2 .left),
+      ← c3 .before .is-told-early .ensures,
+      c3 .if3 .left,
+      ← c .before .is-told-both .ensures,
+      c .if4 .left,
+    )
 
 pub row-question-spec : {M : Type 1} → statement M
 row-question-spec =
     tie.close
     (tie.spec
-    returns
     code-requires
+    returns
     returns-2
     is-told-early-requires
     returns-3
