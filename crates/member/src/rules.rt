@@ -24,7 +24,7 @@ fn is_quiet(n: u8, t: u8, r: u8, k: Tally) -> bool
 }
 
 fn is_enough(n: u8, t: u8, r: u8, k: Tally) -> bool
-    requires counts { ⌜ (1 ≤ t) × (t ≤ n) × (estimates k ≤ n) ⌝ }
+    requires counts { ⌜ (t ≤ n) × (n ≤ largest) × (estimates k ≤ n) ⌝ }
     ensures tested { λ b. ⌜ b ≡ enough n t r k ⌝ }
 {
     r == t && n - t + 1 <= k.zeros + k.ones
@@ -32,7 +32,7 @@ fn is_enough(n: u8, t: u8, r: u8, k: Tally) -> bool
 
 // The rule that an undecided member in range meets, from round 2 on.
 fn rule_met(n: u8, t: u8, r: u8, k: Tally) -> Rule
-    requires counts { ⌜ (1 ≤ t) × (t < n) × (2 ≤ r) × (estimates k ≤ n) ⌝ }
+    requires counts { ⌜ (1 ≤ t) × (t < n) × (n ≤ largest) × (2 ≤ r) × (estimates k ≤ n) ⌝ }
     ensures met { λ rule. ⌜ rule ≡ ruleMet n t r k ⌝ }
 {
     if is_told(k) {

@@ -1,4 +1,5 @@
 -- `is_within` meets its contract: the two halves of `&&` are the two tests of `within`. Assumes nothing.
+use native.Mathlib.Omega.{arith}
 use borrow.Author.Tests.{le-leb, lt-leb}
 use Rattle.laws.specs.Test.{within}
 use Rattle.laws.proofs.is_within.Statement.{statement}
@@ -6,11 +7,11 @@ use Rattle.laws.proofs.is_within.Tie as tie
 
 returns : tie.Need-returns
 unfolding within
-returns c = simp (le-leb _ _ (c .if1 .taken))
+returns c = let a = c .before .args in simp (le-leb (a .lo) (a .x) (omega arith))
 
 returns-2 : tie.Need-returns-2
 unfolding within
-returns-2 c = simp (lt-leb _ _ (c .if1 .left))
+returns-2 c = let a = c .before .args in simp (lt-leb (a .lo) (a .x) (omega arith))
 
 pub is-within-spec : {M : Type 1} → statement M
 is-within-spec = tie.close (tie.spec returns returns-2)

@@ -1,10 +1,14 @@
 -- `open_question` meets its contract: each question that is passed goes on to the next. Assumes nothing.
+use Rattle.laws.specs.Test.{within}
+use Prim.Native.Nat.{_-_}
+use mathlib.Core.Bool.{true, false}
+use mathlib.Core.Path.{_≡_}
 use native.Mathlib.Omega.{arith}
 use borrow.Author.Needs.{needs}
 use borrow.Author.Tests.{le-leb, lt-leb}
 use Rattle.laws.specs.Answer.{ask}
 use Rattle.laws.proofs.Test.{was-false, was-true, within-low}
-use Rattle.member.specs.Opening.{openQuestion}
+use Rattle.member.specs.Opening.{largest, openQuestion}
 use Rattle.member.proofs.limits.open_question.Statement.{statement}
 use Rattle.member.proofs.limits.open_question.Tie as tie
 
@@ -13,7 +17,10 @@ is-within-requires c κs = search needs
 
 returns : tie.Need-returns
 unfolding openQuestion ask
-returns c = simp (was-false (c .before .is-within .ensures) (c .if1 .taken))
+returns c =
+    let a = c .before .before .args in
+    let h1 : within 4 (a .n) largest ≡ false = was-false (c .before .is-within .ensures) (c .if1 .taken) in
+    simp h1
 
 sub-below : tie.Need-sub-below
 sub-below c = omega (arith, within-low _ _ _ (was-true (c .before .is-within .ensures) (c .if1 .left)))
@@ -24,8 +31,11 @@ is-within-requires-2 c κs = search needs
 returns-2 : tie.Need-returns-2
 unfolding openQuestion ask
 returns-2 c =
+    let a = c .before .before .before .before .args in
     let c1 = c .before .before in
-    simp (was-true (c1 .before .is-within .ensures) (c1 .if1 .left), was-false (c .before .is-within2 .ensures) (c .if2 .taken))
+    let h1 : within 4 (a .n) largest ≡ true = was-true (c1 .before .is-within .ensures) (c1 .if1 .left) in
+    let h2 : within 3 (a .t) (a .n - 1) ≡ false = was-false (c .before .is-within2 .ensures) (c .if2 .taken) in
+    simp (h1, h2)
 
 is-within-requires-3 : tie.Need-is-within-requires-3
 is-within-requires-3 c κs = search needs
@@ -33,39 +43,37 @@ is-within-requires-3 c κs = search needs
 returns-3 : tie.Need-returns-3
 unfolding openQuestion ask
 returns-3 c =
+    let a = c .before .before .before .before .before .before .args in
     let c2 = c .before .before in
     let c1 = c2 .before .before in
-    simp (
-      was-true (c1 .before .is-within .ensures) (c1 .if1 .left),
-      was-true (c2 .before .is-within2 .ensures) (c2 .if2 .left),
-      was-false (c .before .is-within3 .ensures) (c .if3 .taken),
-    )
+    let h1 : within 4 (a .n) largest ≡ true = was-true (c1 .before .is-within .ensures) (c1 .if1 .left) in
+    let h2 : within 3 (a .t) (a .n - 1) ≡ true = was-true (c2 .before .is-within2 .ensures) (c2 .if2 .left) in
+    let h3 : within 1 (a .id) (a .n) ≡ false = was-false (c .before .is-within3 .ensures) (c .if3 .taken) in
+    simp (h1, h2, h3)
 
 returns-4 : tie.Need-returns-4
 unfolding openQuestion ask
 returns-4 c =
+    let a = c .before .before .before .before .before .before .before .args in
     let c3 = c .before in
     let c2 = c3 .before .before in
     let c1 = c2 .before .before in
-    simp (
-      was-true (c1 .before .is-within .ensures) (c1 .if1 .left),
-      was-true (c2 .before .is-within2 .ensures) (c2 .if2 .left),
-      was-true (c3 .before .is-within3 .ensures) (c3 .if3 .left),
-      lt-leb _ _ (c .if4 .taken),
-    )
+    let h1 : within 4 (a .n) largest ≡ true = was-true (c1 .before .is-within .ensures) (c1 .if1 .left) in
+    let h2 : within 3 (a .t) (a .n - 1) ≡ true = was-true (c2 .before .is-within2 .ensures) (c2 .if2 .left) in
+    let h3 : within 1 (a .id) (a .n) ≡ true = was-true (c3 .before .is-within3 .ensures) (c3 .if3 .left) in
+    simp (h1, h2, h3, lt-leb (a .vote) 1 (omega arith))
 
 returns-5 : tie.Need-returns-5
 unfolding openQuestion ask
 returns-5 c =
+    let a = c .before .before .before .before .before .before .before .args in
     let c3 = c .before in
     let c2 = c3 .before .before in
     let c1 = c2 .before .before in
-    simp (
-      was-true (c1 .before .is-within .ensures) (c1 .if1 .left),
-      was-true (c2 .before .is-within2 .ensures) (c2 .if2 .left),
-      was-true (c3 .before .is-within3 .ensures) (c3 .if3 .left),
-      le-leb _ _ (c .if4 .left),
-    )
+    let h1 : within 4 (a .n) largest ≡ true = was-true (c1 .before .is-within .ensures) (c1 .if1 .left) in
+    let h2 : within 3 (a .t) (a .n - 1) ≡ true = was-true (c2 .before .is-within2 .ensures) (c2 .if2 .left) in
+    let h3 : within 1 (a .id) (a .n) ≡ true = was-true (c3 .before .is-within3 .ensures) (c3 .if3 .left) in
+    simp (h1, h2, h3, le-leb (a .vote) 1 (omega arith))
 
 pub open-question-spec : {M : Type 1} → statement M
 open-question-spec =

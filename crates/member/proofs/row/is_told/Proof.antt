@@ -1,4 +1,5 @@
 -- `is_told` meets its contract. Assumes nothing.
+use native.Mathlib.Omega.{arith}
 use Rattle.member.specs.Hearing.{told}
 use borrow.Author.Tests.{lt-ltb, le-ltb}
 use Rattle.member.proofs.row.is_told.Statement.{statement}
@@ -6,11 +7,11 @@ use Rattle.member.proofs.row.is_told.Tie as tie
 
 returns : tie.Need-returns
 unfolding told
-returns c = simp (lt-ltb _ _ (c .if1 .taken))
+returns c = let k = c .before .before .args .k in simp (lt-ltb 0 (k .aborts) (omega arith))
 
 returns-2 : tie.Need-returns-2
 unfolding told
-returns-2 c = simp (le-ltb _ _ (c .before .if1 .left))
+returns-2 c = let k = c .before .before .before .args .k in simp (le-ltb 0 (k .aborts) (omega arith))
 
 pub is-told-spec : {M : Type 1} → statement M
 is-told-spec = tie.close (tie.spec returns returns-2)

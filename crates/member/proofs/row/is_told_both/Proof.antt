@@ -1,4 +1,5 @@
 -- `is_told_both` meets its contract. Assumes nothing.
+use native.Mathlib.Omega.{arith}
 use Rattle.member.specs.Hearing.{toldBoth}
 use borrow.Author.Tests.{lt-ltb, le-ltb}
 use Rattle.member.proofs.row.is_told_both.Statement.{statement}
@@ -6,11 +7,11 @@ use Rattle.member.proofs.row.is_told_both.Tie as tie
 
 returns : tie.Need-returns
 unfolding toldBoth
-returns c = simp (lt-ltb _ _ (c .before .if1 .taken))
+returns c = let k = c .before .before .before .args .k in simp (lt-ltb 0 (k .aborts) (omega arith))
 
 returns-2 : tie.Need-returns-2
 unfolding toldBoth
-returns-2 c = simp (le-ltb _ _ (c .if1 .left))
+returns-2 c = let k = c .before .before .args .k in simp (le-ltb 0 (k .aborts) (omega arith))
 
 pub is-told-both-spec : {M : Type 1} → statement M
 is-told-both-spec = tie.close (tie.spec returns returns-2)

@@ -1,4 +1,5 @@
 -- `is_told_early` meets its contract. Assumes nothing.
+use native.Mathlib.Omega.{arith}
 use borrow.Author.Tests.{le-leb, lt-leb}
 use Rattle.member.specs.Hearing.{toldEarly}
 use borrow.Author.Needs.{needs}
@@ -10,11 +11,11 @@ is-told-requires c κs = search needs
 
 returns : tie.Need-returns
 unfolding toldEarly
-returns c = simp (le-leb _ _ (c .before .if1 .taken)) (c .is-told .ensures)
+returns c = let r = c .before .before .args .r in simp (le-leb r 2 (omega arith)) (c .is-told .ensures)
 
 returns-2 : tie.Need-returns-2
 unfolding toldEarly
-returns-2 c = simp (lt-leb _ _ (c .if1 .left))
+returns-2 c = let r = c .before .args .r in simp (lt-leb r 2 (omega arith))
 
 pub is-told-early-spec : {M : Type 1} → statement M
 is-told-early-spec = tie.close (tie.spec is-told-requires returns returns-2)

@@ -1,4 +1,5 @@
 -- `is_enough` meets its contract. Assumes nothing.
+use native.Mathlib.Omega.{arith}
 use Rattle.member.specs.Hearing.{enough}
 use borrow.Author.Tests.{eq-eqb, ne-eqb}
 use borrow.Author.Needs.{needs}
@@ -16,11 +17,11 @@ add-result-2 c = search needs
 
 returns : tie.Need-returns
 unfolding enough
-returns c = simp (eq-eqb _ _ (c .before .if1 .taken))
+returns c = let a = c .before .before .args in simp (eq-eqb (a .r) (a .t) (omega arith))
 
 returns-2 : tie.Need-returns-2
 unfolding enough
-returns-2 c = simp (ne-eqb _ _ (c .if1 .left))
+returns-2 c = let a = c .before .args in simp (ne-eqb (a .r) (a .t) (c .if1 .left))
 
 pub is-enough-spec : {M : Type 1} → statement M
 is-enough-spec = tie.close (tie.spec sub-result add-result add-result-2 returns returns-2)

@@ -1,4 +1,6 @@
 -- `is_quiet` meets its contract. Assumes nothing.
+use Prim.Native.Nat.{_-_}
+use native.Mathlib.Omega.{arith}
 use Rattle.member.specs.Hearing.{quiet}
 use borrow.Author.Tests.{le-leb, lt-leb}
 use borrow.Author.Needs.{needs}
@@ -19,11 +21,11 @@ sub-result-2 c = search needs
 
 returns : tie.Need-returns
 unfolding quiet
-returns c = simp (le-leb _ _ (c .before .if1 .taken))
+returns c = let a = c .before .before .args in simp (le-leb (a .r) (a .t - 1) (omega arith))
 
 returns-2 : tie.Need-returns-2
 unfolding quiet
-returns-2 c = simp (lt-leb _ _ (c .if1 .left))
+returns-2 c = let a = c .before .args in simp (lt-leb (a .r) (a .t - 1) (omega arith))
 
 pub is-quiet-spec : {M : Type 1} → statement M
 is-quiet-spec = tie.close (tie.spec sub-if1 add-result sub-result sub-result-2 returns returns-2)

@@ -1,4 +1,5 @@
 -- `is_zeros_only` meets its contract. Assumes nothing.
+use native.Mathlib.Omega.{arith}
 use Rattle.member.specs.Hearing.{zerosOnly}
 use borrow.Author.Tests.{eq-eqb, ne-eqb}
 use Rattle.member.proofs.rules.is_zeros_only.Statement.{statement}
@@ -6,11 +7,11 @@ use Rattle.member.proofs.rules.is_zeros_only.Tie as tie
 
 returns : tie.Need-returns
 unfolding zerosOnly
-returns c = simp (eq-eqb _ _ (c .before .if1 .taken))
+returns c = let r = c .before .before .args .r in simp (eq-eqb r 2 (omega arith))
 
 returns-2 : tie.Need-returns-2
 unfolding zerosOnly
-returns-2 c = simp (ne-eqb _ _ (c .if1 .left))
+returns-2 c = let r = c .before .args .r in simp (ne-eqb r 2 (c .if1 .left))
 
 pub is-zeros-only-spec : {M : Type 1} → statement M
 is-zeros-only-spec = tie.close (tie.spec returns returns-2)

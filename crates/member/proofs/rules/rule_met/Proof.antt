@@ -1,4 +1,6 @@
 -- `rule_met` meets its contract: its tests are those of `ruleMet`, in order. Assumes nothing.
+use Prim.Native.Nat.{_+_}
+use native.Mathlib.Omega.{arith}
 use borrow.Author.Tests.{eq-eqb, ne-eqb}
 use Rattle.member.specs.Hearing.{ruleMet}
 use borrow.Author.Needs.{needs}
@@ -48,20 +50,22 @@ add-if5 c = search needs
 returns-5 : tie.Need-returns-5
 unfolding ruleMet
 returns-5 c =
+    let a = c .before .before .before .before .before .before .before .before .before .args in
     let c4 = c .before in
     let c3 = c4 .before .before in
     let c2 = c3 .before .before in
     let c1 = c2 .before .before in
-    simp (← c1 .before .is-told .ensures, c1 .if1 .left, ← c2 .before .is-zeros-only .ensures, c2 .if2 .left, ← c3 .before .is-quiet .ensures, c3 .if3 .left, ← c4 .before .is-enough .ensures, c4 .if4 .left, eq-eqb _ _ (c .if5 .taken))
+    simp (← c1 .before .is-told .ensures, c1 .if1 .left, ← c2 .before .is-zeros-only .ensures, c2 .if2 .left, ← c3 .before .is-quiet .ensures, c3 .if3 .left, ← c4 .before .is-enough .ensures, c4 .if4 .left, eq-eqb (a .r) (a .t + 1) (omega arith))
 
 returns-6 : tie.Need-returns-6
 unfolding ruleMet
 returns-6 c =
+    let a = c .before .before .before .before .before .before .before .before .before .args in
     let c4 = c .before in
     let c3 = c4 .before .before in
     let c2 = c3 .before .before in
     let c1 = c2 .before .before in
-    simp (← c1 .before .is-told .ensures, c1 .if1 .left, ← c2 .before .is-zeros-only .ensures, c2 .if2 .left, ← c3 .before .is-quiet .ensures, c3 .if3 .left, ← c4 .before .is-enough .ensures, c4 .if4 .left, ne-eqb _ _ (c .if5 .left))
+    simp (← c1 .before .is-told .ensures, c1 .if1 .left, ← c2 .before .is-zeros-only .ensures, c2 .if2 .left, ← c3 .before .is-quiet .ensures, c3 .if3 .left, ← c4 .before .is-enough .ensures, c4 .if4 .left, ne-eqb (a .r) (a .t + 1) (c .if5 .left))
 
 pub rule-met-spec : {M : Type 1} → statement M
 rule-met-spec =

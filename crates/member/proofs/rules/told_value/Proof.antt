@@ -1,4 +1,5 @@
 -- `told_value` meets its contract. Assumes nothing.
+use native.Mathlib.Omega.{arith}
 use Rattle.member.specs.Hearing.{toldValue}
 use borrow.Author.Tests.{lt-ltb, le-ltb}
 use Rattle.member.proofs.rules.told_value.Statement.{statement}
@@ -6,11 +7,11 @@ use Rattle.member.proofs.rules.told_value.Tie as tie
 
 returns : tie.Need-returns
 unfolding toldValue
-returns c = simp (lt-ltb _ _ (c .if1 .taken))
+returns c = let k = c .before .before .args .k in simp (lt-ltb 0 (k .aborts) (omega arith))
 
 returns-2 : tie.Need-returns-2
 unfolding toldValue
-returns-2 c = simp (le-ltb _ _ (c .if1 .left))
+returns-2 c = let k = c .before .before .args .k in simp (le-ltb 0 (k .aborts) (omega arith))
 
 pub told-value-spec : {M : Type 1} → statement M
 told-value-spec = tie.close (tie.spec returns returns-2)

@@ -1,4 +1,9 @@
 -- `is_placed` meets its contract: its tests are those of `placed`, in order. Assumes nothing.
+use Rattle.laws.specs.Test.{within}
+use mathlib.Core.Bool.{true, false}
+use mathlib.Core.Path.{_≡_}
+use Prim.Native.Nat.{_+_}
+use native.Mathlib.Omega.{arith}
 use borrow.Author.Tests.{eq-eqb, ne-eqb}
 use Rattle.laws.proofs.Test.{was-false, was-true}
 use Rattle.member.specs.State.{placed}
@@ -24,7 +29,9 @@ is-within-requires c κs = search needs
 
 returns : tie.Need-returns
 unfolding placed
-returns c = simp (eq-eqb _ _ (c .before .if1 .taken)) (c .is-within .ensures)
+returns c =
+    let m = c .before .before .before .before .before .args .m in
+    simp (eq-eqb (m .decided) 0 (omega arith)) (c .is-within .ensures)
 
 add-is-within-2 : tie.Need-add-is-within-2
 add-is-within-2 c = search needs
@@ -34,7 +41,10 @@ is-within-requires-2 c κs = search needs
 
 returns-2 : tie.Need-returns-2
 unfolding placed
-returns-2 c = simp (ne-eqb _ _ (c .before .before .if1 .left), was-false (c .before .is-within2 .ensures) (c .if2 .taken))
+returns-2 c =
+    let m = c .before .before .before .before .before .before .args .m in
+    let h : within 2 (m .decided) (m .t + 1) ≡ false = was-false (c .before .is-within2 .ensures) (c .if2 .taken) in
+    simp (ne-eqb (m .decided) 0 (c .before .before .if1 .left), h)
 
 add-is-within-3 : tie.Need-add-is-within-3
 add-is-within-3 c = search needs
@@ -47,7 +57,11 @@ is-within-requires-3 c κs = search needs
 
 returns-3 : tie.Need-returns-3
 unfolding placed
-returns-3 c = simp (ne-eqb _ _ (c .before .before .before .before .if1 .left), was-true (c .before .before .before .is-within2 .ensures) (c .before .before .if2 .left), was-false (c .before .is-within3 .ensures) (c .if3 .taken))
+returns-3 c =
+    let m = c .before .before .before .before .before .before .before .before .args .m in
+    let g : within 2 (m .decided) (m .t + 1) ≡ true = was-true (c .before .before .before .is-within2 .ensures) (c .before .before .if2 .left) in
+    let h : within (m .decided + 1) (m .round) (m .decided + 2) ≡ false = was-false (c .before .is-within3 .ensures) (c .if3 .taken) in
+    simp (ne-eqb (m .decided) 0 (c .before .before .before .before .if1 .left), g, h)
 
 add-result : tie.Need-add-result
 add-result c = search needs

@@ -1,4 +1,6 @@
 -- `is_stopped` meets its contract. Assumes nothing.
+use Prim.Native.Nat.{_+_}
+use native.Mathlib.Omega.{arith}
 use borrow.Author.Tests.{eq-eqb, ne-eqb}
 use Rattle.member.specs.State.{stopped}
 use Rattle.member.proofs.Range.{stopped-last}
@@ -20,11 +22,13 @@ add-if1 c = search needs
 
 returns : tie.Need-returns
 unfolding stopped
-returns c = simp (eq-eqb _ _ (c .if1 .taken))
+returns c = let m = c .before .before .before .before .args .m in simp (eq-eqb (m .round) (m .t + 2) (omega arith))
 
 returns-2 : tie.Need-returns-2
 unfolding stopped
-returns-2 c = simp (ne-eqb _ _ (c .before .if1 .left), eq-eqb _ _ (c .if2 .taken))
+returns-2 c =
+    let m = c .before .before .before .before .before .args .m in
+    simp (ne-eqb (m .round) (m .t + 2) (c .before .if1 .left), eq-eqb (m .decided) 0 (omega arith))
 
 add-result : tie.Need-add-result
 add-result c = search needs
