@@ -22,6 +22,19 @@ pub and-right : (a b : Bool) → a && b ≡ true → b ≡ true
 and-right true b e = e
 and-right false b e = absurd (false≢true e)
 
+-- What `a && b` and `a || b` come to in code, which asks b only if a does not settle it.
+pub and-goes-on : (a b : Bool) → a ≡ true → b ≡ a && b
+and-goes-on a b e = rw e
+
+pub and-ends : (a b : Bool) → a ≡ false → a ≡ a && b
+and-ends a b e = rw e
+
+pub or-goes-on : (a b : Bool) → a ≡ false → b ≡ a || b
+or-goes-on a b e = rw e
+
+pub or-ends : (a b : Bool) → a ≡ true → a ≡ a || b
+or-ends a b e = rw e
+
 pub or-false : (a b : Bool) → a || b ≡ false → (a ≡ false) × (b ≡ false)
 or-false true b e = absurd (true≢false e)
 or-false false b e = (refl, e)

@@ -3,7 +3,7 @@
 use mathlib.Core.Path.{_≡_, refl, sym, _∙_, ap}
 use mathlib.Core.Logic.{_⊎_, inl, inr, _≢_}
 use mathlib.Core.List.{List}
-use mathlib.Core.Bool.{Bool, true, false, cond, not, _||_}
+use mathlib.Core.Bool.{Bool, true, false, cond, not, _||_, false≢true}
 use Prim.Native.Nat.{ℕ, _+_, _-_, _≤_, _<_, zero-le}
 use native.Mathlib.Omega.{arith}
 use borrow.Author.Tests.{eqb-true, eqb-false, eq-eqb, ne-eqb, not-true}
@@ -88,19 +88,20 @@ module _ (m : Member) (k : Tally) where
       ]
 
   -- in round t + 1 some rule is met
-  some-rule : (a b c d : Bool) → byRule (cond a Told (cond b ZerosOnly (cond c Quiet (cond d RoundT LastRound)))) m k .decided ≡ m .round
+  some-rule : (a b c d last : Bool) → last ≡ true → byRule (cond a Told (cond b ZerosOnly (cond c Quiet (cond d RoundT (cond last LastRound NoRule))))) m k .decided ≡ m .round
   unfolding byRule
-  some-rule true b c d = refl
-  some-rule false true c d = refl
-  some-rule false false true d = refl
-  some-rule false false false true = refl
-  some-rule false false false false = refl
+  some-rule true b c d last e = refl
+  some-rule false true c d last e = refl
+  some-rule false false true d last e = refl
+  some-rule false false false true last e = refl
+  some-rule false false false false true e = refl
+  some-rule false false false false false e = absurd (false≢true e)
 
   last-rule : m .round ≡ m .t + 1 → byRule (ruleMet (m .n) (m .t) (m .round) k) m k .decided ≡ m .round
   unfolding ruleMet
   last-rule e =
-      rw (eq-eqb (m .round) (m .t + 1) e)
-      (some-rule (told k) (zerosOnly (m .round) k) (quiet (m .n) (m .t) (m .round) k) (enough (m .n) (m .t) (m .round) k))
+      some-rule (told k) (zerosOnly (m .round) k) (quiet (m .n) (m .t) (m .round) k) (enough (m .n) (m .t) (m .round) k) (eqb (m .round) (m .t + 1))
+      (eq-eqb (m .round) (m .t + 1) e)
 
   decides-last : m .t ≢ 0 → m .round ≡ m .t + 1 → becomes m k .decided ≢ 0
   decides-last p e =

@@ -68,7 +68,8 @@ pub fn row_question(m: Member, own: u8, k: Tally) -> u8
     ensures asked { λ r. ⌜ r ≡ rowQuestion m own k ⌝ }
 {
     let says = code(m);
-    if k.others != 0 {
+    let others = k.others;
+    if others != 0 {
         return 14;
     }
     if own != says {

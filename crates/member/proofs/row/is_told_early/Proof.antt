@@ -1,7 +1,10 @@
 -- `is_told_early` meets its contract. Assumes nothing.
+use mathlib.Core.Path.{_∙_}
+use lib.Dec.{leb}
+use Rattle.laws.proofs.Test.{and-goes-on, and-ends}
 use native.Mathlib.Omega.{arith}
 use borrow.Author.Tests.{le-leb, lt-leb}
-use Rattle.member.specs.Hearing.{toldEarly}
+use Rattle.member.specs.Hearing.{told, toldEarly}
 use borrow.Author.Needs.{needs}
 use Rattle.member.proofs.row.is_told_early.Statement.{statement}
 use Rattle.member.proofs.row.is_told_early.Tie as tie
@@ -11,11 +14,11 @@ is-told-requires c κs = search needs
 
 returns : tie.Need-returns
 unfolding toldEarly
-returns c = let r = c .before .before .args .r in simp (le-leb r 2 (omega arith)) (c .is-told .ensures)
+returns c = let a = c .before .before .args in c .is-told .ensures ∙ and-goes-on (leb (a .r) 2) (told (a .k)) (le-leb (a .r) 2 (omega arith))
 
 returns-2 : tie.Need-returns-2
 unfolding toldEarly
-returns-2 c = let r = c .before .args .r in simp (lt-leb r 2 (omega arith))
+returns-2 c = let a = c .before .args in and-ends (leb (a .r) 2) (told (a .k)) (lt-leb (a .r) 2 (omega arith))
 
 pub is-told-early-spec : {M : Type 1} → statement M
 is-told-early-spec = tie.close (tie.spec is-told-requires returns returns-2)

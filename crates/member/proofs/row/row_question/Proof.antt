@@ -11,14 +11,14 @@ code-requires c κs = search needs
 
 returns : tie.Need-returns
 unfolding rowQuestion ask
-returns c = let k = c .before .before .before .args .k in simp (ne-eqb (k .others) 0 (c .if1 .taken))
+returns c = let k = c .before .before .args .k in simp (ne-eqb (k .others) 0 (c .if1 .taken))
 
 returns-2 : tie.Need-returns-2
 unfolding rowQuestion ask
 returns-2 c =
-    let k = c .before .before .before .before .args .k in
+    let k = c .before .before .before .args .k in
     let c1 = c .before in
-    simp (eq-eqb (k .others) 0 (c1 .if1 .left), ← c1 .before .before .code .ensures, ne-eqb _ _ (c .if2 .taken))
+    simp (eq-eqb (k .others) 0 (c1 .if1 .left), ← c1 .before .code .ensures, ne-eqb _ _ (c .if2 .taken))
 
 is-told-early-requires : tie.Need-is-told-early-requires
 is-told-early-requires c κs = search needs
@@ -27,11 +27,11 @@ returns-3 : tie.Need-returns-3
 unfolding rowQuestion ask
 returns-3 c =
     let c2 = c .before .before in
-    let k = c .before .before .before .before .before .before .args .k in
+    let k = c .before .before .before .before .before .args .k in
     let c1 = c2 .before in
     simp (
       eq-eqb (k .others) 0 (c1 .if1 .left),
-      ← c1 .before .before .code .ensures,
+      ← c1 .before .code .ensures,
       eq-eqb _ _ (c2 .if2 .left),
       ← c .before .is-told-early .ensures,
       c .if3 .taken,
@@ -45,11 +45,11 @@ unfolding rowQuestion ask
 returns-4 c =
     let c3 = c .before .before in
     let c2 = c3 .before .before in
-    let k = c .before .before .before .before .before .before .before .before .args .k in
+    let k = c .before .before .before .before .before .before .before .args .k in
     let c1 = c2 .before in
     simp (
       eq-eqb (k .others) 0 (c1 .if1 .left),
-      ← c1 .before .before .code .ensures,
+      ← c1 .before .code .ensures,
       eq-eqb _ _ (c2 .if2 .left),
       ← c3 .before .is-told-early .ensures,
       c3 .if3 .left,
@@ -62,11 +62,11 @@ unfolding rowQuestion ask
 returns-5 c =
     let c3 = c .before .before in
     let c2 = c3 .before .before in
-    let k = c .before .before .before .before .before .before .before .before .args .k in
+    let k = c .before .before .before .before .before .before .before .args .k in
     let c1 = c2 .before in
     simp (
       eq-eqb (k .others) 0 (c1 .if1 .left),
-      ← c1 .before .before .code .ensures,
+      ← c1 .before .code .ensures,
       eq-eqb _ _ (c2 .if2 .left),
       ← c3 .before .is-told-early .ensures,
       c3 .if3 .left,
