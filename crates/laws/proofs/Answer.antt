@@ -1,26 +1,16 @@
 -- Questions that were passed, and the answer that follows. Assumes nothing.
-use mathlib.Core.Path.{_≡_, refl, sym, _∙_}
+use mathlib.Core.Path.{_≡_, refl}
 use mathlib.Core.Bool.{Bool, true, false}
 use Prim.Native.Nat.{ℕ, _<_}
 use native.Mathlib.Omega.{arith}
-use lib.Dec.{eqb}
 use borrow.Author.Tests.{eq-eqb, ne-eqb}
-use Rattle.laws.specs.Answer.{ask, Answer, accepted, refused, answer}
+use Rattle.laws.specs.Answer.{ask, accepted, refused, answer}
 
 -- Where a row of questions comes to 0, the first is answered by yes, and the others come to 0.
 pub passed : (b : Bool) (k others : ℕ) → 0 < k → ask b k others ≡ 0 → (b ≡ true) × (others ≡ 0)
 unfolding ask
 passed true k others h e = (refl, e)
 passed false k others h e = absurd (omega arith)
-
--- a question that is answered by yes, or by no
-pub yes-goes-on : {b : Bool} (k others : ℕ) → b ≡ true → ask b k others ≡ others
-unfolding ask
-yes-goes-on k others e = rw e
-
-pub no-ends : {b : Bool} (k others : ℕ) → b ≡ false → ask b k others ≡ k
-unfolding ask
-no-ends k others e = rw e
 
 module _ {A B : Type 0} where
   pub answer-accepted : (q : ℕ) (value : A) (back : B) → q ≡ 0 → answer q value back ≡ accepted value

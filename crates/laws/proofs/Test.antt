@@ -11,9 +11,6 @@ pub true-or-false : (b : Bool) → (b ≡ true) ⊎ (b ≡ false)
 true-or-false true = inl refl
 true-or-false false = inr refl
 
-pub not-both : {b : Bool} → b ≡ true → b ≡ false → ⊥
-not-both t f = true≢false (sym t ∙ f)
-
 pub and-left : (a b : Bool) → a && b ≡ true → a ≡ true
 and-left true b e = refl
 and-left false b e = e

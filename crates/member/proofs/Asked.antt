@@ -1,12 +1,12 @@
 -- What hearing answers once the questions about the state are passed: it goes by those about the row. Assumes nothing.
-use mathlib.Core.Path.{_≡_, refl, sym, _∙_, ap}
+use mathlib.Core.Path.{_≡_, sym, _∙_, ap}
 use mathlib.Core.Logic.{_≢_}
 use mathlib.Core.List.{List}
 use mathlib.Core.Bool.{true, false}
 use Prim.Native.Nat.{ℕ, _-_}
 use borrow.Author.Tests.{eq-eqb}
 use lib.ListN.{length, getD}
-use Rattle.laws.specs.Answer.{ask, accepted, refused, answer}
+use Rattle.laws.specs.Answer.{ask, accepted, refused}
 use Rattle.laws.proofs.Answer.{answer-accepted, answer-refused}
 use Rattle.member.specs.declared.Member.{Member}
 use Rattle.member.specs.declared.Tally.{Tally}

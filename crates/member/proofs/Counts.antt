@@ -1,9 +1,9 @@
--- The counts of a row. Assumes nothing.
-use mathlib.Core.Path.{_≡_, refl}
-use mathlib.Core.Logic.{_⊎_, inl, inr}
+-- The counts of a row: no more estimates than places, and a loop that has counted the first i places. Assumes nothing.
+use mathlib.Core.Path.{_≡_}
+use mathlib.Core.Logic.{inl, inr}
 use mathlib.Core.List.{List}
-use mathlib.Core.Bool.{Bool, true, false}
-use Prim.Native.Nat.{ℕ, _+_, _≤_, _<_}
+use mathlib.Core.Bool.{Bool}
+use Prim.Native.Nat.{ℕ, _+_, _≤_}
 use native.Mathlib.Omega.{arith}
 use borrow.Author.Tests.{eqb-true, ne-eqb}
 use lib.Dec.{eqb, ltb}
@@ -28,7 +28,7 @@ unfolding codes
 estimates-high row k e =
     rw e (count-apart (length row) (λ i. eqb (getD row i 0) 1) (λ i. eqb (getD row i 0) 2) (λ i. one-code (getD row i 0)))
 
--- the codes of a row that are c, as a test on places
+-- whether the code at a place of the row passes the test
 abbrev pub isAt : (ℕ → Bool) → List ℕ → ℕ → Bool
 isAt test row i = test (getD row i 0)
 

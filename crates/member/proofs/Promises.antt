@@ -1,22 +1,21 @@
 -- The promises of a member. Any row takes a decided member one round on as it is. An undecided one goes on with an estimate that is 0, 1 or its
 -- own, undecided or decided in the round that it plays; and in round t + 1 some rule is always met. Assumes nothing.
-use mathlib.Core.Path.{_≡_, refl, sym, _∙_, ap}
+use mathlib.Core.Path.{_≡_, refl, _∙_, ap}
 use mathlib.Core.Logic.{_⊎_, inl, inr, _≢_}
 use mathlib.Core.List.{List}
 use mathlib.Core.Bool.{Bool, true, false, cond, not, _||_, false≢true}
-use Prim.Native.Nat.{ℕ, _+_, _-_, _≤_, _<_, zero-le}
+use Prim.Native.Nat.{ℕ, _+_, _-_, _≤_, zero-le}
 use native.Mathlib.Omega.{arith}
 use borrow.Author.Tests.{eqb-true, eqb-false, eq-eqb, ne-eqb, not-true}
 use lib.Dec.{eqb, ltb}
 use lib.ListN.{length, getD}
-use Rattle.laws.specs.Answer.{accepted, refused}
 use Rattle.laws.proofs.Test.{true-or-false}
 use Rattle.laws.proofs.Answer.{passed, answer-accepted, answer-refused}
 use Rattle.member.specs.declared.Member.{Member}
 use Rattle.member.specs.declared.Tally.{Tally}
 use Rattle.member.specs.declared.Rule.{Rule}
 use Rattle.member.specs.declared.Rule.the-variants.{Told, ZerosOnly, Quiet, RoundT, LastRound, NoRule}
-use Rattle.member.specs.Opening.{opening, openQuestion}
+use Rattle.member.specs.Opening.{opening}
 use Rattle.member.specs.State.{inRange, stopped}
 use Rattle.member.specs.Hearing.{tallyOf, estimates, told, zerosOnly, quiet, enough, ruleMet, moved, firstEstimate, lowered, toldValue, byRule, becomes, hears}
 use Rattle.member.specs.Questions.{hearQuestion, rowQuestion}

@@ -1,7 +1,7 @@
 -- A member in range, in plain facts on its numbers, both ways. Assumes nothing.
-use mathlib.Core.Path.{_≡_, refl, sym, _∙_}
-use mathlib.Core.Logic.{_⊎_, inl, inr, _≢_}
-use mathlib.Core.Bool.{Bool, true, false, cond, not, _&&_}
+use mathlib.Core.Path.{_≡_}
+use mathlib.Core.Logic.{inl, inr, _≢_}
+use mathlib.Core.Bool.{Bool, true, false, not, _&&_}
 use Prim.Native.Nat.{ℕ, _+_, _-_, _≤_, _<_}
 use native.Mathlib.Omega.{arith}
 use borrow.Author.Tests.{eqb-true, eqb-false, eq-eqb, ne-eqb, leb-true, le-leb}
@@ -12,7 +12,7 @@ use Rattle.laws.proofs.Test.{true-or-false, and-left, and-right, or-false, with
 use Rattle.laws.proofs.Answer.{passed}
 use Rattle.member.specs.declared.Member.{Member}
 use Rattle.member.specs.Opening.{openQuestion}
-use Rattle.member.specs.State.{undecided, inLimits, placed, inRange, stopped}
+use Rattle.member.specs.State.{inLimits, placed, inRange, stopped}
 
 -- n, t, own number and estimate (or vote) are within their limits.
 pub record Limits (limit n t id value : ℕ) : Type 0 where

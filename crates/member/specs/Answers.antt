@@ -1,4 +1,5 @@
 -- What the three calls answer: for each case of an answer's enum document 01's number and values, and the answer that is due.
+-- `tt` stands for nothing: a refusal that gives back its number only.
 use Prim.Native.Nat.{ℕ}
 use mathlib.Core.List.{List}
 use Rattle.laws.specs.Answer.{Answer, accepted, refused, answer}

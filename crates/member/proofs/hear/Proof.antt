@@ -1,8 +1,8 @@
 -- `hear` meets its contract: each question that is passed goes on to the next. Assumes nothing.
-use mathlib.Core.Path.{sym, _∙_, ap}
+use mathlib.Core.Path.{sym, _∙_}
 use native.Mathlib.Omega.{arith}
-use borrow.Author.Tests.{eq-eqb, ne-eqb}
-use Rattle.laws.specs.Answer.{ask, answer, accepted}
+use borrow.Author.Tests.{ne-eqb}
+use Rattle.laws.specs.Answer.{ask, answer}
 use Rattle.laws.proofs.Test.{was-false, was-true}
 use Rattle.member.specs.Questions.{hearQuestion}
 use Rattle.member.specs.Answers.{hearAnswer}

@@ -6,6 +6,7 @@ use mathlib.Core.Path.{_≡_}
 use native.Mathlib.Omega.{arith}
 use borrow.Author.Needs.{needs}
 use borrow.Author.Tests.{le-leb, lt-leb}
+use lib.Dec.{leb}
 use Rattle.laws.specs.Answer.{ask}
 use Rattle.laws.proofs.Test.{was-false, was-true, within-low}
 use Rattle.member.specs.Opening.{largest, openQuestion}
@@ -51,29 +52,29 @@ returns-3 c =
     let h3 : within 1 (a .id) (a .n) ≡ false = was-false (c .before .is-within3 .ensures) (c .if3 .taken) in
     simp (h1, h2, h3)
 
-returns-4 : tie.Need-returns-4
+-- past the first three questions
+up-to-4 : (c : tie.Else3) → let a = c .before .before .before .before .before .before .args in openQuestion largest (a .n) (a .t) (a .id) (a .vote) ≡ ask (leb (a .vote) 1) 4 0
 unfolding openQuestion ask
-returns-4 c =
-    let a = c .before .before .before .before .before .before .before .args in
-    let c3 = c .before in
-    let c2 = c3 .before .before in
+up-to-4 c =
+    let a = c .before .before .before .before .before .before .args in
+    let c2 = c .before .before in
     let c1 = c2 .before .before in
     let h1 : within 4 (a .n) largest ≡ true = was-true (c1 .before .is-within .ensures) (c1 .if1 .left) in
     let h2 : within 3 (a .t) (a .n - 1) ≡ true = was-true (c2 .before .is-within2 .ensures) (c2 .if2 .left) in
-    let h3 : within 1 (a .id) (a .n) ≡ true = was-true (c3 .before .is-within3 .ensures) (c3 .if3 .left) in
-    simp (h1, h2, h3, lt-leb (a .vote) 1 (omega arith))
+    let h3 : within 1 (a .id) (a .n) ≡ true = was-true (c .before .is-within3 .ensures) (c .if3 .left) in
+    simp (h1, h2, h3)
+
+returns-4 : tie.Need-returns-4
+unfolding ask
+returns-4 c =
+    let vote = c .before .before .before .before .before .before .before .args .vote in
+    simp (up-to-4 (c .before), lt-leb vote 1 (omega arith))
 
 returns-5 : tie.Need-returns-5
-unfolding openQuestion ask
+unfolding ask
 returns-5 c =
-    let a = c .before .before .before .before .before .before .before .args in
-    let c3 = c .before in
-    let c2 = c3 .before .before in
-    let c1 = c2 .before .before in
-    let h1 : within 4 (a .n) largest ≡ true = was-true (c1 .before .is-within .ensures) (c1 .if1 .left) in
-    let h2 : within 3 (a .t) (a .n - 1) ≡ true = was-true (c2 .before .is-within2 .ensures) (c2 .if2 .left) in
-    let h3 : within 1 (a .id) (a .n) ≡ true = was-true (c3 .before .is-within3 .ensures) (c3 .if3 .left) in
-    simp (h1, h2, h3, le-leb (a .vote) 1 (omega arith))
+    let vote = c .before .before .before .before .before .before .before .args .vote in
+    simp (up-to-4 (c .before), le-leb vote 1 (omega arith))
 
 pub open-question-spec : {M : Type 1} → statement M
 open-question-spec =

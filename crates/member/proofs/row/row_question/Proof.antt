@@ -1,7 +1,10 @@
 -- `row_question` meets its contract: each question that is passed goes on to the next. Assumes nothing.
+use mathlib.Core.Path.{_≡_}
+use mathlib.Core.Bool.{not}
 use borrow.Author.Needs.{needs}
 use borrow.Author.Tests.{eq-eqb, ne-eqb}
 use Rattle.laws.specs.Answer.{ask}
+use Rattle.member.specs.Hearing.{toldBoth}
 use Rattle.member.specs.Questions.{rowQuestion}
 use Rattle.member.proofs.row.row_question.Statement.{statement}
 use Rattle.member.proofs.row.row_question.Tie as tie
@@ -40,12 +43,13 @@ returns-3 c =
 is-told-both-requires : tie.Need-is-told-both-requires
 is-told-both-requires c κs = search needs
 
-returns-4 : tie.Need-returns-4
+-- past the first three questions
+up-to-17 : (c : tie.After-is-told-both) → let a = c .before .before .before .before .before .before .args in rowQuestion (a .m) (a .own) (a .k) ≡ ask (not (toldBoth (a .k))) 17 0
 unfolding rowQuestion ask
-returns-4 c =
-    let c3 = c .before .before in
+up-to-17 c =
+    let k = c .before .before .before .before .before .before .args .k in
+    let c3 = c .before in
     let c2 = c3 .before .before in
-    let k = c .before .before .before .before .before .before .before .args .k in
     let c1 = c2 .before in
     simp (
       eq-eqb (k .others) 0 (c1 .if1 .left),
@@ -53,26 +57,15 @@ returns-4 c =
       eq-eqb _ _ (c2 .if2 .left),
       ← c3 .before .is-told-early .ensures,
       c3 .if3 .left,
-      ← c .before .is-told-both .ensures,
-      c .if4 .taken,
     )
 
+returns-4 : tie.Need-returns-4
+unfolding ask
+returns-4 c = simp (up-to-17 (c .before), ← c .before .is-told-both .ensures, c .if4 .taken)
+
 returns-5 : tie.Need-returns-5
-unfolding rowQuestion ask
-returns-5 c =
-    let c3 = c .before .before in
-    let c2 = c3 .before .before in
-    let k = c .before .before .before .before .before .before .before .args .k in
-    let c1 = c2 .before in
-    simp (
-      eq-eqb (k .others) 0 (c1 .if1 .left),
-      ← c1 .before .code .ensures,
-      eq-eqb _ _ (c2 .if2 .left),
-      ← c3 .before .is-told-early .ensures,
-      c3 .if3 .left,
-      ← c .before .is-told-both .ensures,
-      c .if4 .left,
-    )
+unfolding ask
+returns-5 c = simp (up-to-17 (c .before), ← c .before .is-told-both .ensures, c .if4 .left)
 
 pub row-question-spec : {M : Type 1} → statement M
 row-question-spec =

@@ -1,7 +1,11 @@
 -- `rule_met` meets its contract: its tests are those of `ruleMet`, in order. Assumes nothing.
+use mathlib.Core.Path.{_≡_}
+use mathlib.Core.Bool.{cond}
 use Prim.Native.Nat.{_+_}
+use lib.Dec.{eqb}
 use native.Mathlib.Omega.{arith}
 use borrow.Author.Tests.{eq-eqb, ne-eqb}
+use Rattle.member.specs.declared.Rule.the-variants.{LastRound, NoRule}
 use Rattle.member.specs.Hearing.{ruleMet}
 use borrow.Author.Needs.{needs}
 use Rattle.member.proofs.rules.rule_met.Statement.{statement}
@@ -47,25 +51,33 @@ returns-4 c =
 add-if5 : tie.Need-add-if5
 add-if5 c = search needs
 
-returns-5 : tie.Need-returns-5
+-- past the first four rules
+up-to-last : (c : tie.Else4) → let a = c .before .before .before .before .before .before .before .before .args in ruleMet (a .n) (a .t) (a .r) (a .k) ≡ cond (eqb (a .r) (a .t + 1)) LastRound NoRule
 unfolding ruleMet
+up-to-last c =
+    let c3 = c .before .before in
+    let c2 = c3 .before .before in
+    let c1 = c2 .before .before in
+    simp (
+      ← c1 .before .is-told .ensures,
+      c1 .if1 .left,
+      ← c2 .before .is-zeros-only .ensures,
+      c2 .if2 .left,
+      ← c3 .before .is-quiet .ensures,
+      c3 .if3 .left,
+      ← c .before .is-enough .ensures,
+      c .if4 .left,
+    )
+
+returns-5 : tie.Need-returns-5
 returns-5 c =
     let a = c .before .before .before .before .before .before .before .before .before .args in
-    let c4 = c .before in
-    let c3 = c4 .before .before in
-    let c2 = c3 .before .before in
-    let c1 = c2 .before .before in
-    simp (← c1 .before .is-told .ensures, c1 .if1 .left, ← c2 .before .is-zeros-only .ensures, c2 .if2 .left, ← c3 .before .is-quiet .ensures, c3 .if3 .left, ← c4 .before .is-enough .ensures, c4 .if4 .left, eq-eqb (a .r) (a .t + 1) (omega arith))
+    simp (up-to-last (c .before), eq-eqb (a .r) (a .t + 1) (omega arith))
 
 returns-6 : tie.Need-returns-6
-unfolding ruleMet
 returns-6 c =
     let a = c .before .before .before .before .before .before .before .before .before .args in
-    let c4 = c .before in
-    let c3 = c4 .before .before in
-    let c2 = c3 .before .before in
-    let c1 = c2 .before .before in
-    simp (← c1 .before .is-told .ensures, c1 .if1 .left, ← c2 .before .is-zeros-only .ensures, c2 .if2 .left, ← c3 .before .is-quiet .ensures, c3 .if3 .left, ← c4 .before .is-enough .ensures, c4 .if4 .left, ne-eqb (a .r) (a .t + 1) (c .if5 .left))
+    simp (up-to-last (c .before), ne-eqb (a .r) (a .t + 1) (c .if5 .left))
 
 pub rule-met-spec : {M : Type 1} → statement M
 rule-met-spec =

@@ -1,5 +1,4 @@
 -- `is_in_range` meets its contract. Assumes nothing.
-use mathlib.Core.Path.{sym, _∙_}
 use Rattle.member.specs.State.{inRange}
 use borrow.Author.Needs.{needs}
 use Rattle.member.proofs.state.is_in_range.Statement.{statement}
