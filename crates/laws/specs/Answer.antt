@@ -3,11 +3,21 @@
 use Prim.Native.Nat.{ℕ}
 use mathlib.Core.Bool.{Bool, cond}
 use lib.Dec.{eqb}
+use Rattle.laws.specs.Below.{fold}
 
 -- One question and those after it: the question's number if its answer is no, and else what the others come to.
 -- A row of questions ends in 0, so it comes to the number of the first whose answer is no, or to 0.
 unfoldable pub ask : Bool → ℕ → ℕ → ℕ
 ask yes? number others = cond yes? others number
+
+-- A row of questions that comes to q, and those after it.
+unfoldable pub andThen : ℕ → ℕ → ℕ
+andThen q others = cond (eqb q 0) others q
+
+-- The rows of questions q 0, q 1, .., q (n - 1), one after the other.
+unfoldable pub askEach : ℕ → (ℕ → ℕ) → ℕ
+unfolding fold andThen
+askEach n q = fold n (λ i before. andThen before (q i)) 0
 
 -- What a call answers: the value of an accepted call, or the number and what a refusal gives back.
 pub data Answer (A B : Type 0) : Type 0 where

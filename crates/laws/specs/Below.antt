@@ -1,5 +1,6 @@
--- Sums and counts over the numbers below n, in the order in which a loop goes through them.
+-- Sums, counts, lists and loops over the numbers below n, in the order in which a loop goes through them.
 use Prim.Native.Nat.{ℕ, zero, suc, _+_}
+use mathlib.Core.List.{List, [], _∷_, _++_}
 use mathlib.Core.Bool.{Bool, cond}
 
 -- f 0 + f 1 + .. + f (n - 1)
@@ -15,3 +16,13 @@ bit b = cond b 1 0
 unfoldable pub count : ℕ → (ℕ → Bool) → ℕ
 unfolding sum
 count n p = sum n (λ i. bit (p i))
+
+-- the list of f 0, f 1, .., f (n - 1)
+unfoldable pub tabulate : {A : Type 0} → ℕ → (ℕ → A) → List A
+tabulate zero f = []
+tabulate (suc n) f = tabulate n f ++ (f n ∷ [])
+
+-- what a loop over 0, 1, .., n - 1 leaves that starts with a and makes `step i x` of x at i
+unfoldable pub fold : {A : Type 0} → ℕ → (ℕ → A → A) → A → A
+fold zero step a = a
+fold (suc n) step a = step n (fold n step a)

@@ -13,11 +13,17 @@ largest = 32
 abbrev pub opening : ℕ → ℕ → ℕ → ℕ → Member
 opening n t id vote = record { n = n; t = t; id = id; round = 1; estimate = vote; decided = 0 }
 
+-- "n from 4 to 32? 1. t from 3 to n − 1? 2.", and the questions after them
+abbrev pub sizeQuestions : ℕ → ℕ → ℕ → ℕ → ℕ
+sizeQuestions limit n t others =
+    ask (within 4 n limit) 1
+    (ask (within 3 t (n - 1)) 2
+    others)
+
 -- "Opening: 1, 2, own number from 1 to n? 10, 4."
 unfoldable pub openQuestion : ℕ → ℕ → ℕ → ℕ → ℕ → ℕ
 openQuestion limit n t id vote =
-    ask (within 4 n limit) 1
-    (ask (within 3 t (n - 1)) 2
+    sizeQuestions limit n t
     (ask (within 1 id n) 10
     (ask (leb vote 1) 4
-    0)))
+    0))

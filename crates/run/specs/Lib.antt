@@ -1,0 +1,4 @@
+pub mod Protocol
+pub mod Run
+pub mod Report
+pub mod Demand

@@ -1,0 +1,56 @@
+-- The run of a schedule (document 01, "Who hears whom"), for any protocol. Processes are named by their places, counted from 0.
+use Prim.Native.Nat.{ℕ, zero, suc, _+_}
+use mathlib.Core.List.{List}
+use mathlib.Core.Bool.{Bool, cond, _&&_, _||_, not}
+use lib.ListN.{getD}
+use lib.Dec.{ltb, eqb}
+use Rattle.laws.specs.Below.{tabulate}
+use Rattle.member.specs.Saying.{nothing}
+use Rattle.schedule.specs.Schedule.{Schedule, names, voteOf, crashOf, reachOf}
+use Rattle.run.specs.Protocol.{Protocol}
+
+module _ (s : Schedule) where
+  -- "In round r a process with crash round c = 0 or c > r completes the round."
+  unfoldable pub completes : ℕ → ℕ → Bool
+  completes r i = eqb (crashOf s i) 0 || ltb r (crashOf s i)
+
+  -- "It hears from j what j says, if j completes the round; or if j's crash round is r and its reach names the hearer": i hears from j
+  unfoldable pub hearsFrom : ℕ → ℕ → ℕ → Bool
+  hearsFrom r i j = completes r j || (eqb (crashOf s j) r && names (reachOf s j) i)
+
+module _ (P : Protocol) (s : Schedule) where
+  -- the state at place i of the states side by side; every place below n holds one
+  abbrev pub stateAt : List (P .State) → ℕ → P .State
+  stateAt states i = getD states i (P .opening 0 0 0 0)
+
+  -- the row of codes that process i hears in round r, "from the states at its start"; "else nothing"
+  unfoldable pub rowOf : ℕ → List (P .State) → ℕ → List ℕ
+  rowOf r states i = tabulate (s .n) (λ j. cond (hearsFrom s r i j) (P .says (stateAt states j)) nothing)
+
+  -- "A process that completes the round hears its row, unless it is stopped. Every other keeps its state"
+  unfoldable pub nextState : ℕ → List (P .State) → ℕ → P .State
+  nextState r states i =
+      cond (completes s r i && not (P .stopped (stateAt states i)))
+      (P .hears (stateAt states i) (rowOf r states i))
+      (stateAt states i)
+
+  -- round r of all processes: "All rows of a round come from the states at its start."
+  unfoldable pub played : ℕ → List (P .State) → List (P .State)
+  played r states = tabulate (s .n) (nextState r states)
+
+  -- "every member is opened with n, t, its own number and its vote"
+  unfoldable pub opened : List (P .State)
+  opened = tabulate (s .n) (λ i. P .opening (s .n) (s .t) (i + 1) (voteOf s i))
+
+  -- "Then rounds 1 to t + 1 are played in order, each from the states that the round before left": the states after r rounds
+  unfoldable pub statesAfter : ℕ → List (P .State)
+  statesAfter zero = opened
+  statesAfter (suc r) = played (suc r) (statesAfter r)
+
+  -- process i after r rounds
+  unfoldable pub after : ℕ → ℕ → P .State
+  after r i = stateAt (statesAfter r) i
+
+  -- the states at the end of the run
+  unfoldable pub final : List (P .State)
+  final = statesAfter (s .t + 1)

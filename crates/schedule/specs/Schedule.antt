@@ -1,0 +1,39 @@
+-- A schedule: the size of a cluster, how many crashes it is set up to bear, and the votes and crashes of its processes.
+-- The process at place i of the tables, counted from 0, has the number i + 1. Definitions and laws speak of places.
+use Prim.Native.Nat.{ℕ, _/_, _%_, _^_}
+use mathlib.Core.List.{List}
+use mathlib.Core.Bool.{Bool, not}
+use lib.ListN.{getD}
+use lib.Dec.{eqb}
+use Rattle.laws.specs.Test.{within}
+use Rattle.laws.specs.Below.{count}
+
+pub record Schedule : Type 0 where
+  pub n : ℕ
+  pub t : ℕ
+  pub votes : List ℕ
+  pub crashes : List ℕ
+  pub reaches : List ℕ
+
+-- "A reach names the processes that get the message of the crash round; as a number, bit i − 1 stands for process i."
+unfoldable pub names : ℕ → ℕ → Bool
+names reach i = eqb (reach / 2 ^ i % 2) 1
+
+module _ (s : Schedule) where
+  -- the vote, the crash round and the reach of the process at place i
+  abbrev pub voteOf : ℕ → ℕ
+  voteOf i = getD (s .votes) i 0
+
+  abbrev pub crashOf : ℕ → ℕ
+  crashOf i = getD (s .crashes) i 0
+
+  abbrev pub reachOf : ℕ → ℕ
+  reachOf i = getD (s .reaches) i 0
+
+  -- "f is the number of processes whose crash round isn't 0."
+  unfoldable pub crashCount : ℕ
+  crashCount = count (s .n) (λ i. not (eqb (crashOf i) 0))
+
+  -- how many processes have crash rounds from 1 to r
+  unfoldable pub crashedBy : ℕ → ℕ
+  crashedBy r = count (s .n) (λ i. within 1 (crashOf i) r)

@@ -1,0 +1,1 @@
+// A schedule in tables: its definitions and rules are in specs/.
