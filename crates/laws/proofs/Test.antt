@@ -32,6 +32,14 @@ or-goes-on a b e = rw e
 pub or-ends : (a b : Bool) → a ≡ true → a ≡ a || b
 or-ends a b e = rw e
 
+pub and-false : (a b : Bool) → a && b ≡ false → a ≡ true → b ≡ false
+and-false true b e h = e
+and-false false b e h = absurd (false≢true h)
+
+pub or-true : (a b : Bool) → a || b ≡ true → (a ≡ true) ⊎ (b ≡ true)
+or-true true b e = inl refl
+or-true false b e = inr e
+
 pub or-false : (a b : Bool) → a || b ≡ false → (a ≡ false) × (b ≡ false)
 or-false true b e = absurd (true≢false e)
 or-false false b e = (refl, e)

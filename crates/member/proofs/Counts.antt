@@ -15,7 +15,7 @@ use Rattle.member.specs.declared.Tally.{Tally}
 use Rattle.member.specs.Hearing.{codes, tallyOf, estimates}
 
 -- a code is not two codes
-one-code : (c : ℕ) → bit (eqb c 1) + bit (eqb c 2) ≤ 1
+pub one-code : (c : ℕ) → bit (eqb c 1) + bit (eqb c 2) ≤ 1
 one-code c =
     elim (true-or-false (eqb c 1)) [
       | inl e ↦ let z = eqb-true c 1 e in rw (e, ne-eqb c 2 (λ w. omega arith)) (omega arith)
