@@ -1,9 +1,9 @@
 -- What a test that came out true or false says. Assumes nothing.
 use mathlib.Core.Path.{_≡_, refl, sym, _∙_}
 use mathlib.Core.Logic.{_⊎_, inl, inr}
-use mathlib.Core.Bool.{Bool, true, false, not, _&&_, _||_, true≢false, false≢true}
-use Prim.Native.Nat.{ℕ, _≤_}
-use borrow.Author.Tests.{not-true, not-false, leb-true, le-leb}
+use mathlib.Core.Bool.{Bool, true, false, cond, not, _&&_, _||_, true≢false, false≢true}
+use Prim.Native.Nat.{ℕ, _≤_, _<_}
+use borrow.Author.Tests.{not-true, not-false, leb-true, le-leb, lt-leb}
 use lib.Dec.{leb}
 use Rattle.laws.specs.Test.{within}
 
@@ -44,6 +44,31 @@ pub or-false : (a b : Bool) → a || b ≡ false → (a ≡ false) × (b ≡ fal
 or-false true b e = absurd (true≢false e)
 or-false false b e = (refl, e)
 
+-- What makes a test come out true or false.
+pub and-both : (a b : Bool) → a ≡ true → b ≡ true → a && b ≡ true
+and-both a b p q = rw (p, q)
+
+pub and-no-right : (a b : Bool) → b ≡ false → a && b ≡ false
+and-no-right true b e = e
+and-no-right false b e = refl
+
+pub or-left : (a b : Bool) → a ≡ true → a || b ≡ true
+or-left a b e = rw e
+
+pub or-right : (a b : Bool) → b ≡ true → a || b ≡ true
+or-right true b e = refl
+or-right false b e = e
+
+pub or-neither : (a b : Bool) → a ≡ false → b ≡ false → a || b ≡ false
+or-neither a b p q = rw (p, q)
+
+module _ {A : Type 0} where
+  pub cond-true : (b : Bool) (x y : A) → b ≡ true → cond b x y ≡ x
+  cond-true b x y e = rw e
+
+  pub cond-false : (b : Bool) (x y : A) → b ≡ false → cond b x y ≡ y
+  cond-false b x y e = rw e
+
 -- a callee's flag q, which is the test b, taken the other way round by `!`
 pub was-false : {q b : Bool} → q ≡ b → not q ≡ true → b ≡ false
 was-false {q} e h = sym e ∙ not-true q h
@@ -63,3 +88,11 @@ module _ (lo x hi : ℕ) where
   pub within-is : lo ≤ x → x ≤ hi → within lo x hi ≡ true
   unfolding within
   within-is a b = rw (le-leb lo x a, le-leb x hi b)
+
+  pub within-not-low : x < lo → within lo x hi ≡ false
+  unfolding within
+  within-not-low a = rw (lt-leb lo x a)
+
+  pub within-not-high : hi < x → within lo x hi ≡ false
+  unfolding within
+  within-not-high a = and-no-right (leb lo x) (leb x hi) (lt-leb x hi a)

@@ -9,9 +9,9 @@ use native.Mathlib.Nat.{not-suc-le-zero}
 use native.Mathlib.Numerals.{add-one}
 use native.Mathlib.Omega.{arith}
 use lib.Dec.{ltb, leb, eqb}
-use borrow.Author.Tests.{eqb-true, eqb-false, eq-eqb, leb-false, ltb-true, lt-ltb, le-ltb}
+use borrow.Author.Tests.{eqb-true, eqb-false, eq-eqb, leb-false, ltb-true, lt-ltb}
 use Rattle.laws.specs.Below.{fold}
-use Rattle.laws.proofs.Test.{true-or-false, and-left, and-right, or-true}
+use Rattle.laws.proofs.Test.{true-or-false, and-left, and-right, and-both, or-left, or-right, or-true}
 use Rattle.laws.proofs.Counting.{Some, split, below-or-top, count-short}
 use Rattle.laws.proofs.Folds.{largest-high, largest-is}
 use Rattle.schedule.specs.Schedule.{Schedule}
@@ -19,15 +19,15 @@ use Rattle.schedule.specs.Questions.{Rules}
 use Rattle.run.specs.Protocol.{Protocol, fcwfa}
 use Rattle.run.specs.Run.{final}
 use Rattle.run.specs.Report.{roundOf, before, firstWith, firstOf, lastOf}
-use Rattle.run.specs.Demand.{FirstIs, LastIs, Deciders}
+use Rattle.run.specs.Facts.{FirstIs, LastIs, Deciders}
 use Rattle.run.proofs.States.{last-round}
 use Rattle.run.proofs.CrashRounds.{crashRound}
-use Rattle.run.proofs.FcwfaRun.{theWorld, laws}
+use Rattle.run.proofs.FcwfaRun.{runWorld, laws}
 use Rattle.run.proofs.Demand.{end-is}
 
 module _ (P : Protocol) (s : Schedule) (states : List (P .State)) where
   abbrev R : ℕ → ℕ
-  R = roundOf P s states
+  R = roundOf P states
 
   -- the order of two deciders, in plain facts
   data Before (i k : ℕ) : Type 0 where
@@ -36,8 +36,9 @@ module _ (P : Protocol) (s : Schedule) (states : List (P .State)) where
 
   before-is : (i k : ℕ) → Before i k → before P s states i k ≡ true
   unfolding before
-  before-is i k (sooner h) = rw (lt-ltb (R i) (R k) h) refl
-  before-is i k (lower e h) = rw (le-ltb (R i) (R k) (omega arith), eq-eqb (R i) (R k) e, lt-ltb i k h) refl
+  before-is i k (sooner h) = or-left (ltb (R i) (R k)) (eqb (R i) (R k) && ltb i k) (lt-ltb (R i) (R k) h)
+  before-is i k (lower e h) =
+      or-right (ltb (R i) (R k)) (eqb (R i) (R k) && ltb i k) (and-both (eqb (R i) (R k)) (ltb i k) (eq-eqb (R i) (R k) e) (lt-ltb i k h))
 
   is-before : (i k : ℕ) → before P s states i k ≡ true → Before i k
   unfolding before
@@ -119,7 +120,7 @@ module _ (P : Protocol) (s : Schedule) (states : List (P .State)) where
 
 module _ (s : Schedule) (ok : Rules s) where
   abbrev ends : ℕ → ℕ
-  ends = roundOf fcwfa s (final fcwfa s)
+  ends = roundOf fcwfa (final fcwfa s)
 
   -- a process that never crashes decides
   some-decides : Some (s .n) λ i. ends i ≢ 0
@@ -127,7 +128,7 @@ module _ (s : Schedule) (ok : Rules s) where
       let a = laws s ok .few in
       let b = ok .t-high in
       let x = count-short (s .n) (λ j. leb (crashRound s j) (suc (s .t))) (omega arith) in
-      let p = last-round (theWorld s ok) (laws s ok) (x .0) (x .1) (leb-false (crashRound s (x .0)) (suc (s .t)) (x .2)) in
+      let p = last-round (runWorld s) (laws s ok) (x .0) (x .1) (leb-false (crashRound s (x .0)) (suc (s .t)) (x .2)) in
       let e = ap (λ m. m .decided) (end-is s ok (x .0)) in
       (x .0, x .1, λ z. omega arith)
 

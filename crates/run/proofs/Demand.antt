@@ -2,19 +2,22 @@
 -- Each part is what the files on votes, early decision, agreement and messages show of the run as plain numbers. Assumes nothing.
 use mathlib.Core.Path.{_≡_, refl, ap, _∙_}
 use mathlib.Core.Logic.{inl, inr, _≢_}
-use Prim.Native.Nat.{ℕ, zero, suc, _+_, _-_, _≤_, _<_}
+use Prim.Native.Nat.{ℕ, zero, suc, _+_, _-_, _*_, _≤_, _<_, min}
+use native.Mathlib.Nat.{le-trans, le-of-eq, mul-le-mul-left}
 use native.Mathlib.Numerals.{add-one}
 use native.Mathlib.Omega.{arith}
 use lib.Dec.{leb}
 use borrow.Author.Tests.{leb-true, leb-false}
+use Rattle.laws.specs.Below.{sum}
 use Rattle.laws.proofs.Test.{true-or-false}
 use Rattle.schedule.specs.Schedule.{Schedule, crashCount, crashedBy}
 use Rattle.schedule.specs.Questions.{Rules}
 use Rattle.run.specs.Protocol.{fcwfa}
 use Rattle.run.specs.Run.{stateAt, after, final}
 use Rattle.run.specs.Report.{messages}
-use Rattle.run.specs.Demand.{Decides, CompletesUndecided, roundB, Demand3, CrashesSoFar}
-use Rattle.run.proofs.World.{Plays}
+use Rattle.run.specs.Demand.{Decides, CompletesUndecided, roundB, Demand3}
+use Rattle.run.specs.Facts.{CrashesSoFar}
+use Rattle.run.proofs.World.{Plays, crashes}
 use Rattle.run.proofs.States.{stays, undecided}
 use Rattle.run.proofs.EarlyDecision.{IsRoundB, crashes-so-far, by-round-b}
 use Rattle.run.proofs.Votes.{abort, abort-2, commit-2}
@@ -23,11 +26,11 @@ use Rattle.run.proofs.Messages.{bounded}
 use Rattle.run.proofs.CrashRounds.{alive, crashes-are, crashes-all}
 use Rattle.run.proofs.FcwfaMember.{Stands, behaves}
 use Rattle.run.proofs.RunWorld.{vote-is, sentOf, sent-high, sent-by}
-use Rattle.run.proofs.FcwfaRun.{theWorld, laws, rules}
+use Rattle.run.proofs.FcwfaRun.{runWorld, laws, rules}
 
 module _ (s : Schedule) (ok : Rules s) where
   -- the end of the run is the state after round t + 1
-  pub end-is : (i : ℕ) → stateAt fcwfa s (final fcwfa s) i ≡ after fcwfa s (suc (s .t)) i
+  pub end-is : (i : ℕ) → stateAt fcwfa (final fcwfa s) i ≡ after fcwfa s (suc (s .t)) i
   unfolding final after
   end-is i = ap (λ r. after fcwfa s r i) (add-one (s .t))
 
@@ -43,12 +46,15 @@ module _ (s : Schedule) (ok : Rules s) where
   -- what was decided in round r stands at the end
   pub lasts : (i v r : ℕ) → i < s .n → 0 < r → r ≤ suc (s .t) → after fcwfa s r i .decided ≡ r → after fcwfa s r i .estimate ≡ v → Decides fcwfa s i v r
   lasts i v r l p rt d e =
-      let st = stays (theWorld s ok) (laws s ok) r (suc (s .t)) i rt (omega arith) l (omega arith) in
+      let st = stays (runWorld s) (laws s ok) r (suc (s .t)) i rt (omega arith) l (omega arith) in
       let a = ap (λ m. m .decided) (end-is i) in
       let b = ap (λ m. m .estimate) (end-is i) in
       record { process = l; round = omega arith; not-none = λ z. omega arith; value = omega arith }
 
-  is-round-b : IsRoundB (theWorld s ok) (laws s ok) (rules s ok) (roundB s)
+  abbrev B : ℕ
+  B = roundB (crashCount s) (s .t)
+
+  is-round-b : IsRoundB (runWorld s) B
   unfolding roundB
   is-round-b =
       let f = crashes-all s ok in
@@ -58,14 +64,25 @@ module _ (s : Schedule) (ok : Rules s) where
         | inr e ↦ let h = leb-false (crashCount s) (s .t - 2) e in inr (omega arith, rw e (omega arith))
       ]
 
-  round-b-high : roundB s ≤ suc (s .t)
+  round-b-high : B ≤ suc (s .t)
   round-b-high = let f = laws s ok .few in elim is-round-b [ inl h ↦ omega arith | inr h ↦ omega arith ]
 
-  pub demand-3 : Demand3 s
+  -- the rounds of the sum, numbered from 0
+  messages-are : messages fcwfa s ≡ sum (suc (s .t)) (λ r. sum (s .n) (sentOf fcwfa 1 Stands behaves s r))
   unfolding messages
+  messages-are = ap (λ k. sum k (λ r. sum (s .n) (sentOf fcwfa 1 Stands behaves s r))) (add-one (s .t))
+
+  messages-high : messages fcwfa s ≤ s .n * s .n * min (B + 1) (s .t + 1)
+  messages-high =
+      let sums = bounded (runWorld s) (laws s ok) (rules s ok) (s .n) (sentOf fcwfa 1 Stands behaves s)
+      (λ r j _. sent-high fcwfa 1 Stands behaves s ok r j) (sent-by fcwfa 1 Stands behaves s) B is-round-b in
+      let spoken : min (suc B) (suc (s .t)) ≤ min (B + 1) (s .t + 1) = omega arith in
+      le-trans (le-trans (le-of-eq messages-are) sums) (mul-le-mul-left (s .n * s .n) spoken)
+
+  pub demand-3 : Demand3 s
   demand-3 = record {
     agreement = λ i k v x q r a b.
-        let g = agreement (theWorld s ok) (laws s ok) (rules s ok) in
+        let g = agreement (runWorld s) (laws s ok) (rules s ok) in
         let y = at-end i v q a in
         let z = at-end k x r b in
         let p = g .1 i (a .process) (y .0) in
@@ -74,25 +91,24 @@ module _ (s : Schedule) (ok : Rules s) where
     abort-validity = λ z i v r a.
         let y = at-end i v r a in
         let vote = vote-is fcwfa 1 Stands behaves s (z .voter) (z .process) ∙ z .vote in
-        let g = abort (theWorld s ok) (laws s ok) (rules s ok) (z .voter) (z .process) vote i (a .process) (y .0) in
+        let g = abort (runWorld s) (laws s ok) (rules s ok) (z .voter) (z .process) vote i (a .process) (y .0) in
         omega arith;
     round-b = λ i h.
         let c = h .completes-it in
         let u = h .undecided in
-        let g = by-round-b (theWorld s ok) (laws s ok) (rules s ok) (roundB s) i is-round-b (c .process) (alive s (roundB s) i round-b-high (c .completed)) in
+        let g = by-round-b (runWorld s) (laws s ok) (rules s ok) B i is-round-b (c .process) (alive s B i round-b-high (c .completed)) in
         omega arith;
-    message-bound =
-        let g = bounded (theWorld s ok) (laws s ok) (rules s ok) (s .n) (sentOf fcwfa 1 Stands behaves s)
-        (λ r j _. sent-high fcwfa 1 Stands behaves s ok r j) (sent-by fcwfa 1 Stands behaves s) (roundB s) is-round-b in
-        rw (add-one (s .t), add-one (roundB s)) g;
+    message-bound = messages-high;
     weak-fast-abort = λ z i h.
         let tl = ok .t-low in
         let vote = vote-is fcwfa 1 Stands behaves s (z .voter) (z .process) ∙ z .vote in
-        let g = abort-2 (theWorld s ok) (laws s ok) (rules s ok) (z .voter) (z .process) vote i (h .process) (alive s 2 i (omega arith) (h .completed)) in
+        let g = abort-2 (runWorld s) (laws s ok) (rules s ok) (z .voter) (z .process) vote i (h .process) (alive s 2 i (omega arith) (h .completed)) in
         lasts i 0 2 (h .process) (omega arith) (omega arith) (g .0) (g .1);
     fast-commit = λ all none i l.
         let tl = ok .t-low in
-        let g = commit-2 (theWorld s ok) (laws s ok) (rules s ok) (λ j jl. vote-is fcwfa 1 Stands behaves s j jl ∙ all j jl) (crashes-all s ok ∙ none) i l in
+        let f = crashes-all s ok in
+        let no-crash : crashes (runWorld s) (suc (s .t)) ≡ 0 = omega arith in
+        let g = commit-2 (runWorld s) (laws s ok) (rules s ok) (λ j jl. vote-is fcwfa 1 Stands behaves s j jl ∙ all j jl) no-crash i l in
         lasts i 1 2 l (omega arith) (omega arith) (g .0) (g .1);
   }
 
@@ -101,10 +117,10 @@ module _ (s : Schedule) (ok : Rules s) where
   so-far (suc r) i p rt h =
       let l = h .completes-it .process in
       let a = alive s (suc r) i (omega arith) (h .completes-it .completed) in
-      let before = undecided (theWorld s ok) (laws s ok) r (suc r) i (omega arith) (omega arith) l (h .undecided) in
-      let o : Plays (theWorld s ok) r i = record { time = omega arith; process = l; alive = a; undecided = before } in
+      let before = undecided (runWorld s) (laws s ok) r (suc r) i (omega arith) (omega arith) l (h .undecided) in
+      let o : Plays (runWorld s) r i = record { time = omega arith; process = l; alive = a; undecided = before } in
       let e = crashes-are s (suc r) (omega arith) in
-      let k = crashes-so-far (theWorld s ok) (laws s ok) (rules s ok) r i o (omega arith) (h .undecided) in
+      let k = crashes-so-far (runWorld s) (laws s ok) (rules s ok) r i o (omega arith) (h .undecided) in
       ((λ b. let y = k .1 b in omega arith), (λ b. let y = k .2 b in omega arith))
 
   pub by-crashes-so-far : CrashesSoFar s

@@ -17,6 +17,10 @@ use Rattle.run.proofs.States.{Way, way, stays-put, told, not-told, unde
 module _ (w : World) where
   open World w using (n, t, start, crash, estimate, decided, code)
 
+  -- B is the round f + 2, or f + 1 where that is beyond t
+  abbrev pub IsRoundB : ℕ → Type 0
+  IsRoundB B = ((crashes w (suc t) + 2 ≤ t) × (B ≡ crashes w (suc t) + 2)) ⊎ ((t < crashes w (suc t) + 2) × (B ≡ crashes w (suc t) + 1))
+
   module _ (laws : RoundLaws w) (rules : DecisionRules w) where
     pub crashes-so-far : (r i : ℕ) → Plays w r i → 0 < r → decided (suc r) i ≡ 0 → (r < t) × (suc r < t → r ≤ crashes w (suc r)) × (suc r ≡ t → t ≤ crashes w (suc r))
     crashes-so-far r i o p u = go (way w laws r i (o .time) (o .process))
@@ -33,10 +37,6 @@ module _ (w : World) where
               | decides e _ ↦ absurd (omega arith)
               | waits _ h ↦ (h .not-last, (λ b. let x = h .not-quiet b in omega arith), (λ b. let x = h .not-count b in omega arith))
             ]
-
-    -- B is the round f + 2, or f + 1 where that is beyond t
-    abbrev pub IsRoundB : ℕ → Type 0
-    IsRoundB B = ((crashes w (suc t) + 2 ≤ t) × (B ≡ crashes w (suc t) + 2)) ⊎ ((t < crashes w (suc t) + 2) × (B ≡ crashes w (suc t) + 1))
 
     pub by-round-b : (B i : ℕ) → IsRoundB B → i < n → B < crash i → 0 < decided B i
     by-round-b zero i h l a = absurd (elim h [ inl x ↦ omega arith | inr x ↦ omega arith ])

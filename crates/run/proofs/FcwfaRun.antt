@@ -8,14 +8,14 @@ use Rattle.run.proofs.World.{World, RoundLaws, DecisionRules}
 use Rattle.run.proofs.FcwfaMember.{Stands, behaves, first-of, ends-of}
 use Rattle.run.proofs.RunWorld.{world, codeOf, hearing, round-laws}
 
-module _ (s : Schedule) (ok : Rules s) where
-  abbrev pub theWorld : World
-  theWorld = world fcwfa s 1
+abbrev pub runWorld : Schedule → World
+runWorld s = world fcwfa s 1
 
-  pub laws : RoundLaws theWorld
+module _ (s : Schedule) (ok : Rules s) where
+  pub laws : RoundLaws (runWorld s)
   laws = round-laws fcwfa 1 Stands behaves s ok
 
-  pub rules : DecisionRules theWorld
+  pub rules : DecisionRules (runWorld s)
   rules = record {
     start-1 = refl;
     first = λ i o.

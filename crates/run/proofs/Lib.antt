@@ -10,9 +10,12 @@ pub mod Rows
 pub mod Behaviour
 pub mod Chosen
 pub mod FcwfaMember
+pub mod Rounds
 pub mod CrashRounds
 pub mod RunWorld
 pub mod FcwfaRun
 pub mod Demand
 pub mod Deciders
 pub mod NoneRefused
+pub mod Reported
+pub mod Theorem

@@ -1,29 +1,30 @@
 -- The run of a schedule that keeps the rules, by members that behave, keeps the laws of World.antt. Assumes nothing.
-use mathlib.Core.Path.{_≡_, refl, sym, ap, _∙_}
-use mathlib.Core.Logic.{_⊎_, inl, inr}
-use mathlib.Core.Bool.{Bool, true, false, cond, true≢false}
-use Prim.Native.Nat.{ℕ, zero, suc, _+_, _≤_, _<_, zero-le}
+use mathlib.Core.Path.{_≡_, refl, ap, _∙_}
+use mathlib.Core.Logic.{_⊎_, inl, inr, _≢_}
+use mathlib.Core.Bool.{true, false}
+use Prim.Native.Nat.{ℕ, zero, suc, _+_, _≤_, _<_}
 use native.Mathlib.Omega.{arith}
 use lib.Dec.{eqb}
-use lib.Count.{ones, ones-le}
-use borrow.Author.Tests.{eqb-true, eqb-false, lt-ltb, le-ltb}
+use lib.Count.{ones-le}
+use borrow.Author.Tests.{eqb-true, eqb-false}
 use Rattle.laws.specs.Below.{tabulate}
 use Rattle.laws.proofs.Test.{true-or-false}
 use Rattle.laws.proofs.Counting.{split}
-use Rattle.laws.proofs.Lists.{getD-tabulate}
-use Rattle.schedule.specs.Schedule.{Schedule, voteOf, crashOf, reachOf}
+use Rattle.schedule.specs.Schedule.{Schedule, names, voteOf, reachOf}
 use Rattle.schedule.specs.Questions.{Rules}
 use Rattle.run.specs.Protocol.{Protocol}
-use Rattle.run.specs.Run.{completes, hearsFrom, rowOf, nextState, played, opened, statesAfter, after}
+use Rattle.run.specs.Run.{stateAt, codeHeard, rowOf, statesAfter, after}
 use Rattle.run.specs.Report.{sent}
-use Rattle.run.proofs.CrashRounds.{crashRound, completes-is, alive, crash-is, takes-part, heard-if, crashes-all}
+use Rattle.run.specs.Facts.{WhoHearsWhom, WhatIsSent}
+use Rattle.run.proofs.Rounds.{Part, completing, crashing, gone, part, who-hears-whom, what-is-sent, who-moves}
+use Rattle.run.proofs.CrashRounds.{crashRound, round-crash, alive, living, crashed, crashes-all}
 use Rattle.run.proofs.World.{World, RoundLaws, Plays, Heard, hears-nothing, hears-estimate, hears-decision, Kept}
 use Rattle.run.proofs.Behaviour.{Behaves, Phase, waiting, fresh, over}
 
 module _ (P : Protocol) (s : Schedule) where
   -- what i hears from j in round r + 1
   abbrev pub codeOf : ℕ → ℕ → ℕ → ℕ
-  codeOf r i j = cond (hearsFrom s (suc r) i j) (P .says (after P s r j)) 0
+  codeOf r = codeHeard P s (suc r) (statesAfter P s r)
 
   -- the run as plain numbers
   abbrev pub world : ℕ → World
@@ -38,39 +39,30 @@ module _ (P : Protocol) (s : Schedule) where
   }
 
   pub row-is : (r i : ℕ) → rowOf P s (suc r) (statesAfter P s r) i ≡ tabulate (s .n) (codeOf r i)
-  unfolding rowOf after
+  unfolding rowOf
   row-is r i = refl
 
+  -- the state that stands at a place after r rounds
+  pub state-is : (r i : ℕ) → stateAt P (statesAfter P s r) i ≡ after P s r i
+  unfolding after
+  state-is r i = refl
+
   pub opens-as : (i : ℕ) → i < s .n → after P s 0 i ≡ P .opening (s .n) (s .t) (i + 1) (voteOf s i)
-  unfolding after statesAfter opened
-  opens-as i l = getD-tabulate (s .n) _ i _ l
+  opens-as i l = who-moves P s 0 i l .opens
 
-  step-is : (r i : ℕ) → i < s .n → after P s (suc r) i ≡ nextState P s (suc r) (statesAfter P s r) i
-  unfolding after statesAfter played
-  step-is r i l = getD-tabulate (s .n) _ i _ l
-
-  pub keeps-state : (r i : ℕ) → i < s .n → completes s (suc r) i ≡ false → after P s (suc r) i ≡ after P s r i
-  unfolding nextState after
-  keeps-state r i l e = step-is r i l ∙ rw e refl
+  pub keeps-state : (r i : ℕ) → r ≤ s .t → i < s .n → crashRound s i ≤ suc r → after P s (suc r) i ≡ after P s r i
+  keeps-state r i rt l a = let c = crashed s (suc r) i (omega arith) a in who-moves P s r i l .crashed (c .0) (c .1)
 
   pub rests : (r i : ℕ) → i < s .n → P .stopped (after P s r i) ≡ true → after P s (suc r) i ≡ after P s r i
-  unfolding nextState after
-  rests r i l e =
-      step-is r i l ∙ elim (true-or-false (completes s (suc r) i)) [ inl f ↦ rw (f, e) refl | inr f ↦ rw f refl ]
+  rests r i l e = who-moves P s r i l .rests e
 
-  pub hears-row : (r i : ℕ) → i < s .n → completes s (suc r) i ≡ true → P .stopped (after P s r i) ≡ false
+  pub hears-row : (r i : ℕ) → i < s .n → suc r < crashRound s i → P .stopped (after P s r i) ≡ false
       → after P s (suc r) i ≡ P .hears (after P s r i) (tabulate (s .n) (codeOf r i))
-  unfolding nextState after
-  hears-row r i l c e = step-is r i l ∙ rw (c, e) (ap (P .hears (after P s r i)) (row-is r i))
+  hears-row r i l a e =
+      who-moves P s r i l .hears (record { process = l; completed = living s (suc r) i a }) e ∙ ap (P .hears (after P s r i)) (row-is r i)
 
   same : (start r i : ℕ) → after P s (suc r) i ≡ after P s r i → Kept (world start) r i
   same start r i e = record { estimate-is = ap (P .estimate) e; decided-is = ap (P .decided) e }
-
-  crashed : (r i : ℕ) → r ≤ s .t → crashRound s i ≤ suc r → completes s (suc r) i ≡ false
-  crashed r i rt a = completes-is s (suc r) i (omega arith) ∙ le-ltb (suc r) (crashRound s i) a
-
-  living : (r i : ℕ) → r ≤ s .t → suc r < crashRound s i → completes s (suc r) i ≡ true
-  living r i rt a = completes-is s (suc r) i (omega arith) ∙ lt-ltb (suc r) (crashRound s i) a
 
 module _ (P : Protocol) (start : ℕ) (At : ℕ → ℕ → ℕ → P .State → Type 0) (behaves : Behaves P start At) (s : Schedule) where
   -- who has completed round r stands there
@@ -82,33 +74,45 @@ module _ (P : Protocol) (start : ℕ) (At : ℕ → ℕ → ℕ → P .State →
           → At (s .n) (s .t) (suc r) (after P s (suc r) i)
       go h (inl e) = rw (rests P s r i l e) (behaves .rests (s .n) (s .t) r (after P s r i) (omega arith) h e)
       go h (inr e) =
-          rw (hears-row P s r i l (living P s r i (omega arith) a) e)
+          rw (hears-row P s r i l a e)
           (behaves .goes-on (s .n) (s .t) r (after P s r i) (tabulate (s .n) (codeOf P s r i)) (omega arith) h e)
 
   pub phase-at : (r : ℕ) → r ≤ s .t → (i : ℕ) → i < s .n → r < crashRound s i → Phase P r (after P s r i)
   phase-at r rt i l a = behaves .phase (s .n) (s .t) r (after P s r i) rt (stands r (omega arith) i l a)
 
   heard-is : (r i j : ℕ) → r ≤ s .t → i < s .n → j < s .n → Heard (world P s start) r i j
-  heard-is r i j rt il jl = go (true-or-false (hearsFrom s (suc r) i j))
+  heard-is r i j rt il jl = go (part s (suc r) j)
     where
-      by : hearsFrom s (suc r) i j ≡ true → r < crashRound s j → Phase P r (after P s r j) → Heard (world P s start) r i j
-      by e a (waiting z _ q) = hears-estimate a z (rw e q)
-      by e a (fresh p z _ q) = hears-decision a p z (rw e q)
-      by e a (over p z _ q) = hears-nothing (rw e q) (λ _. (p, z))
+      facts : WhoHearsWhom P s (suc r) (statesAfter P s r) i j
+      facts = who-hears-whom P s (suc r) (statesAfter P s r) j i
 
-      go : (hearsFrom s (suc r) i j ≡ true) ⊎ (hearsFrom s (suc r) i j ≡ false) → Heard (world P s start) r i j
-      go (inl e) = let a = takes-part s r i j rt e in by e a (phase-at r rt j jl a)
-      go (inr e) = hears-nothing (rw e refl) (λ a. absurd (true≢false (sym (heard-if s r i j rt a) ∙ e)))
+      -- j is heard
+      by : r < crashRound s j → codeOf P s r i j ≡ P .says (after P s r j) → Phase P r (after P s r j) → Heard (world P s start) r i j
+      by a e (waiting z _ q) = hears-estimate a z (e ∙ q)
+      by a e (fresh p z _ q) = hears-decision a p z (e ∙ q)
+      by a e (over p z _ q) = hears-nothing (e ∙ q) (λ _. (p, z))
+
+      go : Part s (suc r) j → Heard (world P s start) r i j
+      go (completing c) =
+          let a = alive s (suc r) j (omega arith) c in
+          by (omega arith) (facts .completing (record { process = jl; completed = c }) ∙ ap (P .says) (state-is P s r j)) (phase-at r rt j jl (omega arith))
+      go (crashing e) =
+          let a = round-crash s j (λ z. omega arith) in
+          elim (true-or-false (names (reachOf s j) i)) [
+            | inl n ↦ by (omega arith) (facts .named e n ∙ ap (P .says) (state-is P s r j)) (phase-at r rt j jl (omega arith))
+            | inr n ↦ hears-nothing (facts .unnamed (λ z. omega arith) e n) (λ b. absurd (omega arith))
+          ]
+      go (gone lo hi) = let a = round-crash s j (λ z. omega arith) in hears-nothing (facts .silent lo hi) (λ b. absurd (omega arith))
 
   kept-is : (r i : ℕ) → r ≤ s .t → i < s .n → 0 < P .decided (after P s r i) → Kept (world P s start) r i
   kept-is r i rt l d =
       elim (split (crashRound s i) (suc r)) [
-        | inl a ↦ same P s start r i (keeps-state P s r i l (crashed P s r i rt a))
+        | inl a ↦ same P s start r i (keeps-state P s r i rt l a)
         | inr a ↦
             elim (true-or-false (P .stopped (after P s r i))) [
               | inl e ↦ same P s start r i (rests P s r i l e)
               | inr e ↦
-                  let h = hears-row P s r i l (living P s r i rt a) e in
+                  let h = hears-row P s r i l a e in
                   let k = behaves .kept (after P s r i) (tabulate (s .n) (codeOf P s r i)) d in
                   record { estimate-is = ap (P .estimate) h ∙ k .0; decided-is = ap (P .decided) h ∙ k .1 }
             ]
@@ -128,7 +132,7 @@ module _ (P : Protocol) (start : ℕ) (At : ℕ → ℕ → ℕ → P .State →
         at = stands r (omega arith) i (o .process) (omega arith);
         next =
             elim (phase-at r rt i (o .process) (omega arith)) [
-              | waiting _ f _ ↦ hears-row P s r i (o .process) (living P s r i rt a) f
+              | waiting _ f _ ↦ hears-row P s r i (o .process) a f
               | fresh p z _ _ ↦ absurd (omega arith)
               | over p _ _ _ ↦ absurd (omega arith)
             ];
@@ -145,7 +149,7 @@ module _ (P : Protocol) (start : ℕ) (At : ℕ → ℕ → ℕ → P .State →
         omega arith;
     opens-undecided = λ i l. ap (P .decided) (opens-as P s i l) ∙ behaves .opens-undecided (s .n) (s .t) (i + 1) (voteOf s i);
     heard = heard-is;
-    out = λ r i rt l a. same P s start r i (keeps-state P s r i l (crashed P s r i rt a));
+    out = λ r i rt l a. same P s start r i (keeps-state P s r i rt l a);
     kept = kept-is;
     moves = λ r i o.
         let g = hearing r i o in
@@ -172,44 +176,50 @@ module _ (P : Protocol) (start : ℕ) (At : ℕ → ℕ → ℕ → P .State →
   abbrev pub sentOf : ℕ → ℕ → ℕ
   sentOf r j = sent P s (suc r) (statesAfter P s r) j
 
-  sent-is : (r j : ℕ)
-      → sentOf r j ≡ cond (eqb (P .says (after P s r j)) 0) 0 (cond (completes s (suc r) j) (s .n) (cond (eqb (crashOf s j) (suc r)) (ones (reachOf s j)) 0))
-  unfolding sent after
-  sent-is r j = refl
+  sent-facts : (r j : ℕ) → WhatIsSent P s (suc r) (statesAfter P s r) j
+  sent-facts r j = what-is-sent P s (suc r) (statesAfter P s r) j
 
-  cond-high : (b : Bool) (x y z : ℕ) → x ≤ z → y ≤ z → cond b x y ≤ z
-  cond-high true x y z h k = h
-  cond-high false x y z h k = k
+  -- whether it says something
+  data Speaks (r j : ℕ) : Type 0 where
+    mute : sentOf r j ≡ 0 → Speaks r j
+    spoke : P .says (stateAt P (statesAfter P s r) j) ≢ 0 → Speaks r j
+
+  speaks : (r j : ℕ) → Speaks r j
+  speaks r j =
+      elim (true-or-false (eqb (P .says (stateAt P (statesAfter P s r) j)) 0)) [
+        | inl z ↦ mute (sent-facts r j .says-nothing (eqb-true (P .says (stateAt P (statesAfter P s r) j)) 0 z))
+        | inr z ↦ spoke (eqb-false (P .says (stateAt P (statesAfter P s r) j)) 0 z)
+      ]
 
   pub sent-high : Rules s → (r j : ℕ) → j < s .n → sentOf r j ≤ s .n
-  sent-high ok r j jl =
-      rw (sent-is r j)
-      (cond-high (eqb (P .says (after P s r j)) 0) 0 _ (s .n) zero-le
-      (cond-high (completes s (suc r) j) (s .n) _ (s .n) (omega arith)
-      (cond-high (eqb (crashOf s j) (suc r)) _ 0 (s .n) (ones-le (s .n) (reachOf s j) (ok .process j jl .reach)) zero-le)))
+  sent-high ok r j jl = go (speaks r j) (part s (suc r) j)
+    where
+      go : Speaks r j → Part s (suc r) j → sentOf r j ≤ s .n
+      go (mute z) _ = omega arith
+      go (spoke h) (completing c) = let e = sent-facts r j .completing h (record { process = jl; completed = c }) in omega arith
+      go (spoke h) (crashing q) =
+          let e = sent-facts r j .crashing h (λ z. omega arith) q in
+          let o = ones-le (s .n) (reachOf s j) (ok .process j jl .reach) in
+          omega arith
+      go (spoke h) (gone lo hi) = let e = sent-facts r j .silent lo hi in omega arith
 
   pub sent-by : (r j : ℕ) → r ≤ s .t → j < s .n → 0 < sentOf r j
       → (r < crashRound s j) × ((P .decided (after P s r j) ≡ 0) ⊎ (P .decided (after P s r j) ≡ r))
-  sent-by r j rt jl p = go (true-or-false (eqb (P .says (after P s r j)) 0)) (true-or-false (completes s (suc r) j)) (true-or-false (eqb (crashOf s j) (suc r)))
+  sent-by r j rt jl p = go (speaks r j) (part s (suc r) j)
     where
-      q : 0 < cond (eqb (P .says (after P s r j)) 0) 0 (cond (completes s (suc r) j) (s .n) (cond (eqb (crashOf s j) (suc r)) (ones (reachOf s j)) 0))
-      q = rw (sent-is r j) at p
-
-      speaks : eqb (P .says (after P s r j)) 0 ≡ false → r < crashRound s j
+      spoken : P .says (stateAt P (statesAfter P s r) j) ≢ 0 → r < crashRound s j
           → (r < crashRound s j) × ((P .decided (after P s r j) ≡ 0) ⊎ (P .decided (after P s r j) ≡ r))
-      speaks e a = (
+      spoken h a = (
         a,
         elim (phase-at r rt j jl a) [
           | waiting z _ _ ↦ inl z
           | fresh _ z _ _ ↦ inr z
-          | over _ _ _ z ↦ absurd (eqb-false (P .says (after P s r j)) 0 e z)
+          | over _ _ _ z ↦ absurd (h (ap (P .says) (state-is P s r j) ∙ z))
         ],
       )
 
-      go : (eqb (P .says (after P s r j)) 0 ≡ true) ⊎ (eqb (P .says (after P s r j)) 0 ≡ false) → (completes s (suc r) j ≡ true) ⊎ (completes s (suc r) j ≡ false)
-          → (eqb (crashOf s j) (suc r) ≡ true) ⊎ (eqb (crashOf s j) (suc r) ≡ false)
-          → (r < crashRound s j) × ((P .decided (after P s r j) ≡ 0) ⊎ (P .decided (after P s r j) ≡ r))
-      go (inl e) _ _ = absurd (let z : 0 < 0 = rw e at q in omega arith)
-      go (inr e) (inl f) _ = speaks e (let h = alive s (suc r) j (omega arith) f in omega arith)
-      go (inr e) (inr f) (inl g) = speaks e (let h = crash-is s j r (eqb-true (crashOf s j) (suc r) g) in omega arith)
-      go (inr e) (inr f) (inr g) = absurd (let z : 0 < 0 = rw (e, f, g) at q in omega arith)
+      go : Speaks r j → Part s (suc r) j → (r < crashRound s j) × ((P .decided (after P s r j) ≡ 0) ⊎ (P .decided (after P s r j) ≡ r))
+      go (mute z) _ = absurd (omega arith)
+      go (spoke h) (completing c) = spoken h (let a = alive s (suc r) j (omega arith) c in omega arith)
+      go (spoke h) (crashing q) = spoken h (let a = round-crash s j (λ z. omega arith) in omega arith)
+      go (spoke h) (gone lo hi) = absurd (let e = sent-facts r j .silent lo hi in omega arith)

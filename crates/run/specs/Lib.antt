@@ -2,3 +2,4 @@ pub mod Protocol
 pub mod Run
 pub mod Report
 pub mod Demand
+pub mod Facts

@@ -18,21 +18,25 @@ module _ (s : Schedule) where
   unfoldable pub hearsFrom : ℕ → ℕ → ℕ → Bool
   hearsFrom r i j = completes r j || (eqb (crashOf s j) r && names (reachOf s j) i)
 
-module _ (P : Protocol) (s : Schedule) where
-  -- the state at place i of the states side by side; every place below n holds one
-  abbrev pub stateAt : List (P .State) → ℕ → P .State
-  stateAt states i = getD states i (P .opening 0 0 0 0)
+-- the state at place i of the states side by side; every place below n holds one
+abbrev pub stateAt : (P : Protocol) → List (P .State) → ℕ → P .State
+stateAt P states i = getD states i (P .opening 0 0 0 0)
 
-  -- the row of codes that process i hears in round r, "from the states at its start"; "else nothing"
+module _ (P : Protocol) (s : Schedule) where
+  -- what process i hears from j in round r: "what j says" if it hears from j, "else nothing"
+  unfoldable pub codeHeard : ℕ → List (P .State) → ℕ → ℕ → ℕ
+  codeHeard r states i j = cond (hearsFrom s r i j) (P .says (stateAt P states j)) nothing
+
+  -- the row of codes that process i hears in round r, of the states at its start
   unfoldable pub rowOf : ℕ → List (P .State) → ℕ → List ℕ
-  rowOf r states i = tabulate (s .n) (λ j. cond (hearsFrom s r i j) (P .says (stateAt states j)) nothing)
+  rowOf r states i = tabulate (s .n) (codeHeard r states i)
 
   -- "A process that completes the round hears its row, unless it is stopped. Every other keeps its state"
   unfoldable pub nextState : ℕ → List (P .State) → ℕ → P .State
   nextState r states i =
-      cond (completes s r i && not (P .stopped (stateAt states i)))
-      (P .hears (stateAt states i) (rowOf r states i))
-      (stateAt states i)
+      cond (completes s r i && not (P .stopped (stateAt P states i)))
+      (P .hears (stateAt P states i) (rowOf r states i))
+      (stateAt P states i)
 
   -- round r of all processes: "All rows of a round come from the states at its start."
   unfoldable pub played : ℕ → List (P .State) → List (P .State)
@@ -49,7 +53,7 @@ module _ (P : Protocol) (s : Schedule) where
 
   -- process i after r rounds
   unfoldable pub after : ℕ → ℕ → P .State
-  after r i = stateAt (statesAfter r) i
+  after r i = stateAt P (statesAfter r) i
 
   -- the states at the end of the run
   unfoldable pub final : List (P .State)

@@ -1,7 +1,7 @@
 -- The questions before a run of a schedule in tables, and the rules that they ask for.
 use Prim.Native.Nat.{ℕ, _+_, _^_, _≤_, _<_}
 use mathlib.Core.Path.{_≡_}
-use mathlib.Core.Bool.{Bool, false, _&&_, _||_, not}
+use mathlib.Core.Bool.{Bool, true, false, _&&_, _||_, not}
 use lib.ListN.{length}
 use lib.Dec.{ltb, leb, eqb}
 use Rattle.laws.specs.Answer.{ask, andThen, askEach}
@@ -49,3 +49,13 @@ module _ (s : Schedule) where
     pub t-high : s .t < s .n
     pub process : (i : ℕ) → i < s .n → ProcessRules i
     pub few : crashCount s ≤ s .t
+
+  -- What a schedule keeps whose questions are all answered by yes.
+  pub record Accepted (limit : ℕ) (answers : Bool) : Type 0 where
+    pub n-low : 4 ≤ s .n
+    pub n-high : s .n ≤ limit
+    pub votes-long : length (s .votes) ≡ s .n
+    pub crashes-long : length (s .crashes) ≡ s .n
+    pub reaches-long : length (s .reaches) ≡ s .n
+    pub answers-long : answers ≡ true
+    pub rules : Rules

@@ -1,0 +1,61 @@
+-- The reported tables hold what each process decides and in which round, and 2 and 0 for none. Assumes nothing.
+use mathlib.Core.Path.{_≡_, sym, ap, _∙_}
+use mathlib.Core.Logic.{_≢_}
+use Prim.Native.Nat.{ℕ, suc, _≤_, _<_}
+use native.Mathlib.Omega.{arith}
+use lib.Dec.{eqb}
+use lib.ListN.{getD}
+use borrow.Author.Tests.{eq-eqb, ne-eqb}
+use Rattle.laws.proofs.Test.{cond-true, cond-false}
+use Rattle.laws.proofs.Lists.{length-tabulate, getD-tabulate}
+use Rattle.schedule.specs.Schedule.{Schedule}
+use Rattle.schedule.specs.Questions.{Rules}
+use Rattle.run.specs.Protocol.{fcwfa}
+use Rattle.run.specs.Run.{stateAt, final}
+use Rattle.run.specs.Report.{roundOf, decisionOf, report}
+use Rattle.run.specs.Facts.{ReportedDecisions}
+use Rattle.run.proofs.States.{bits}
+use Rattle.run.proofs.FcwfaRun.{runWorld, laws}
+use Rattle.run.proofs.Demand.{end-is}
+
+module _ (s : Schedule) (ok : Rules s) where
+  abbrev ended : ℕ → ℕ
+  ended = roundOf fcwfa (final fcwfa s)
+
+  abbrev value : ℕ → ℕ
+  value i = stateAt fcwfa (final fcwfa s) i .estimate
+
+  round-at : (i : ℕ) → i < s .n → getD (report fcwfa s .rounds) i 0 ≡ ended i
+  round-at i l = getD-tabulate (s .n) ended i 0 l
+
+  decided-at : (i : ℕ) → i < s .n → ended i ≢ 0 → getD (report fcwfa s .decisions) i 2 ≡ value i
+  unfolding decisionOf
+  decided-at i l d = getD-tabulate (s .n) (decisionOf fcwfa (final fcwfa s)) i 2 l ∙ cond-false (eqb (ended i) 0) 2 (value i) (ne-eqb (ended i) 0 d)
+
+  undecided-at : (i : ℕ) → i < s .n → ended i ≡ 0 → getD (report fcwfa s .decisions) i 2 ≡ 2
+  unfolding decisionOf
+  undecided-at i l z = getD-tabulate (s .n) (decisionOf fcwfa (final fcwfa s)) i 2 l ∙ cond-true (eqb (ended i) 0) 2 (value i) (eq-eqb (ended i) 0 z)
+
+  value-low : (i : ℕ) → i < s .n → value i ≤ 1
+  value-low i l =
+      let b = bits (runWorld s) (laws s ok) (suc (s .t)) (omega arith) i l in
+      let e = ap (λ m. m .estimate) (end-is s ok i) in
+      omega arith
+
+  pub reported-decisions : ReportedDecisions s
+  reported-decisions = record {
+    decisions-long = length-tabulate (s .n) (decisionOf fcwfa (final fcwfa s));
+    rounds-long = length-tabulate (s .n) ended;
+    decided = λ i v r d.
+        let l = d .process in
+        let e : ended i ≡ r = d .round in
+        let nz : r ≢ 0 = d .not-none in
+        let x = d .value in
+        let low = value-low i l in
+        (decided-at i l (λ z. omega arith) ∙ x, round-at i l ∙ e, omega arith);
+    decides = λ i l d.
+        let e = round-at i l in
+        let q : ended i ≢ 0 = λ z. d (e ∙ z) in
+        record { process = l; round = sym e; not-none = d; value = sym (decided-at i l q) };
+    undecided = λ i l z. undecided-at i l (sym (round-at i l) ∙ z);
+  }

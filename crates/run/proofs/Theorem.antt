@@ -1,0 +1,23 @@
+-- All that is promised of a run, of every schedule that is accepted, whatever the limit on n. Assumes nothing.
+use mathlib.Core.Path.{_≡_}
+use mathlib.Core.Bool.{Bool}
+use Prim.Native.Nat.{ℕ}
+use Rattle.schedule.specs.Schedule.{Schedule}
+use Rattle.schedule.specs.Questions.{question}
+use Rattle.schedule.proofs.Accepted.{question-accepted}
+use Rattle.run.specs.Facts.{RunPromises}
+use Rattle.run.proofs.Demand.{demand-3, by-crashes-so-far}
+use Rattle.run.proofs.Deciders.{deciders}
+use Rattle.run.proofs.Reported.{reported-decisions}
+use Rattle.run.proofs.NoneRefused.{none-refused}
+
+pub accepted-run : (s : Schedule) (limit : ℕ) (answers : Bool) → question s limit answers ≡ 0 → RunPromises limit s
+accepted-run s limit answers e =
+    let a = question-accepted s limit answers e in
+    record {
+      demand-3 = demand-3 s (a .rules);
+      crashes-so-far = by-crashes-so-far s (a .rules);
+      reported-decisions = reported-decisions s (a .rules);
+      deciders = deciders s (a .rules);
+      none-refused = none-refused s (a .rules) limit (a .n-high);
+    }

@@ -1,0 +1,100 @@
+-- What holds of every run besides demand 3: what its definitions come to, process by process, and the facts that the bench and its readers rely
+-- on. Proved in proofs/Rounds.antt, Demand.antt, Deciders.antt, Reported.antt and NoneRefused.antt. Assumes nothing.
+use Prim.Native.Nat.{ℕ, suc, _+_, _-_, _≤_, _<_}
+use mathlib.Core.Path.{_≡_}
+use mathlib.Core.Logic.{_≢_}
+use mathlib.Core.List.{List}
+use mathlib.Core.Bool.{true, false}
+use lib.ListN.{length, getD}
+use lib.Count.{ones}
+use Rattle.member.specs.Opening.{openQuestion}
+use Rattle.member.specs.State.{stopped}
+use Rattle.member.specs.Saying.{nothing}
+use Rattle.member.specs.Questions.{sayQuestion, hearQuestion}
+use Rattle.schedule.specs.Schedule.{Schedule, names, voteOf, crashOf, reachOf, crashedBy}
+use Rattle.run.specs.Protocol.{Protocol, fcwfa}
+use Rattle.run.specs.Run.{stateAt, codeHeard, rowOf, statesAfter, after, final}
+use Rattle.run.specs.Report.{roundOf, before, sent, report}
+use Rattle.run.specs.Demand.{Completes, Decides, CompletesUndecided, Demand3}
+
+module _ (P : Protocol) (s : Schedule) where
+  -- Who hears whom in round r, whatever the states at its start: what i hears from j.
+  pub record WhoHearsWhom (r : ℕ) (states : List (P .State)) (i j : ℕ) : Type 0 where
+    -- what j says, if j never crashes or crashes in a later round; so a process that completes the round hears itself
+    pub completing : Completes s r j → codeHeard P s r states i j ≡ P .says (stateAt P states j)
+    -- what j says, if j crashes in this round and its reach names i
+    pub named : crashOf s j ≡ r → names (reachOf s j) i ≡ true → codeHeard P s r states i j ≡ P .says (stateAt P states j)
+    -- nothing, if j crashes in this round, not 0, and its reach does not name i
+    pub unnamed : r ≢ 0 → crashOf s j ≡ r → names (reachOf s j) i ≡ false → codeHeard P s r states i j ≡ nothing
+    -- nothing, if j crashed before
+    pub silent : 1 ≤ crashOf s j → crashOf s j < r → codeHeard P s r states i j ≡ nothing
+
+  -- What sender j adds to the messages of round r, whatever the states at its start.
+  pub record WhatIsSent (r : ℕ) (states : List (P .State)) (j : ℕ) : Type 0 where
+    -- nothing, if it says nothing; n, if it completes the round; the ones of its reach, if it crashes in the round; nothing, if it crashed before
+    pub says-nothing : P .says (stateAt P states j) ≡ nothing → sent P s r states j ≡ 0
+    pub completing : P .says (stateAt P states j) ≢ nothing → Completes s r j → sent P s r states j ≡ s .n
+    pub crashing : P .says (stateAt P states j) ≢ nothing → r ≢ 0 → crashOf s j ≡ r → sent P s r states j ≡ ones (reachOf s j)
+    pub silent : 1 ≤ crashOf s j → crashOf s j < r → sent P s r states j ≡ 0
+
+  -- What process i does in round r + 1.
+  pub record WhoMoves (r i : ℕ) : Type 0 where
+    pub opens : after P s 0 i ≡ P .opening (s .n) (s .t) (i + 1) (voteOf s i)
+    -- a process that completes the round and is not stopped hears the row of the states at the round's start
+    pub hears : Completes s (suc r) i → P .stopped (after P s r i) ≡ false → after P s (suc r) i ≡ P .hears (after P s r i) (rowOf P s (suc r) (statesAfter P s r) i)
+    -- one that crashes in the round or crashed before keeps its state, and so does one that is stopped
+    pub crashed : 1 ≤ crashOf s i → crashOf s i ≤ suc r → after P s (suc r) i ≡ after P s r i
+    pub rests : P .stopped (after P s r i) ≡ true → after P s (suc r) i ≡ after P s r i
+
+-- By the crashes so far: a process that completes round r undecided has this many processes with crash rounds from 1 to r. Round B follows.
+pub record CrashesSoFar (s : Schedule) : Type 0 where
+  pub early : (r i : ℕ) → 2 ≤ r → r ≤ s .t - 1 → CompletesUndecided fcwfa s r i → r - 1 ≤ crashedBy s r
+  pub round-t : (i : ℕ) → CompletesUndecided fcwfa s (s .t) i → s .t ≤ crashedBy s (s .t)
+
+-- The reported decisions and rounds are those that the processes decide, and 2 and 0 for one that does not. So whatever demand 3 says of
+-- deciding holds of the report's two tables.
+pub record ReportedDecisions (s : Schedule) : Type 0 where
+  pub decisions-long : length (report fcwfa s .decisions) ≡ s .n
+  pub rounds-long : length (report fcwfa s .rounds) ≡ s .n
+  pub decided : (i v r : ℕ) → Decides fcwfa s i v r → (getD (report fcwfa s .decisions) i 2 ≡ v) × (getD (report fcwfa s .rounds) i 0 ≡ r) × (v ≤ 1)
+  pub decides : (i : ℕ) → i < s .n → getD (report fcwfa s .rounds) i 0 ≢ 0
+      → Decides fcwfa s i (getD (report fcwfa s .decisions) i 2) (getD (report fcwfa s .rounds) i 0)
+  pub undecided : (i : ℕ) → i < s .n → getD (report fcwfa s .rounds) i 0 ≡ 0 → getD (report fcwfa s .decisions) i 2 ≡ 2
+
+-- process i is the first to decide, and its number is reported: it decides, and goes before every other process that does
+pub record FirstIs (s : Schedule) (i : ℕ) : Type 0 where
+  pub reported : report fcwfa s .first ≡ i + 1
+  pub process : i < s .n
+  pub decides : roundOf fcwfa (final fcwfa s) i ≢ 0
+  pub goes-before : (k : ℕ) → k < s .n → k ≢ i → roundOf fcwfa (final fcwfa s) k ≢ 0 → before fcwfa s (final fcwfa s) i k ≡ true
+
+-- process i is one that decides in the reported last round, and none decides later
+pub record LastIs (s : Schedule) (i : ℕ) : Type 0 where
+  pub reported : report fcwfa s .last ≡ roundOf fcwfa (final fcwfa s) i
+  pub process : i < s .n
+  pub decides : roundOf fcwfa (final fcwfa s) i ≢ 0
+  pub latest : (k : ℕ) → k < s .n → roundOf fcwfa (final fcwfa s) k ≤ report fcwfa s .last
+
+-- Some process decides, so first and last are never empty.
+pub record Deciders (s : Schedule) : Type 0 where
+  pub first : ℕ
+  pub first-is : FirstIs s first
+  pub last : ℕ
+  pub last-is : LastIs s last
+
+-- In a run no call of a member is refused, for any limit that lets n pass: no opening, no saying, and no row that a member hears. So the run is
+-- the members' own answers.
+pub record NoneRefused (limit : ℕ) (s : Schedule) : Type 0 where
+  pub opens : (i : ℕ) → i < s .n → openQuestion limit (s .n) (s .t) (i + 1) (voteOf s i) ≡ 0
+  pub says : (r i : ℕ) → r ≤ s .t + 1 → i < s .n → sayQuestion limit (after fcwfa s r i) ≡ 0
+  pub hears : (r i : ℕ) → r ≤ s .t → Completes s (suc r) i → stopped (after fcwfa s r i) ≡ false
+      → hearQuestion limit (after fcwfa s r i) (rowOf fcwfa s (suc r) (statesAfter fcwfa s r) i) ≡ 0
+
+-- All that is promised of the run of an accepted schedule. Proved in proofs/Theorem.antt:
+-- `accepted-run : (s : Schedule) (limit : ℕ) (answers : Bool) → question s limit answers ≡ 0 → RunPromises limit s`
+pub record RunPromises (limit : ℕ) (s : Schedule) : Type 0 where
+  pub demand-3 : Demand3 s
+  pub crashes-so-far : CrashesSoFar s
+  pub reported-decisions : ReportedDecisions s
+  pub deciders : Deciders s
+  pub none-refused : NoneRefused limit s

@@ -1,0 +1,115 @@
+-- The questions of a schedule come to 0 exactly where its n is from 4 to the limit, its tables and the answer tables are n long, and it keeps
+-- the rules; those of one process come to 0 exactly where that process keeps its rules. Assumes nothing.
+use mathlib.Core.Path.{_≡_, refl}
+use mathlib.Core.Bool.{Bool, true, false, not, _||_, false≢true}
+use Prim.Native.Nat.{ℕ, _+_, _-_, _^_, _<_}
+use native.Mathlib.Omega.{arith}
+use borrow.Author.Tests.{eqb-true, eq-eqb, ltb-true, lt-ltb, leb-true, le-leb, not-true}
+use lib.ListN.{length}
+use lib.Dec.{ltb, eqb}
+use Rattle.laws.specs.Answer.{ask, andThen}
+use Rattle.laws.proofs.Test.{and-left, and-right, within-low, within-high, within-is}
+use Rattle.laws.proofs.Answer.{passed, and-then-passed, ask-each-passed, ask-each-passes}
+use Rattle.schedule.specs.Schedule.{Schedule, names, voteOf, crashOf, reachOf, crashCount}
+use Rattle.schedule.specs.Questions.{tablesLong, reachRight, processQuestion, question, ProcessRules, Accepted}
+
+-- `not a || b` says that b holds where a does.
+implied : (a b : Bool) → not a || b ≡ true → a ≡ true → b ≡ true
+implied true b e h = e
+implied false b e h = absurd (false≢true h)
+
+implies : (a b : Bool) → (a ≡ true → b ≡ true) → not a || b ≡ true
+implies true b h = h refl
+implies false b h = refl
+
+module _ (s : Schedule) where
+  module _ (i : ℕ) where
+    reach-below : reachRight s i ≡ true → reachOf s i < 2 ^ s .n
+    unfolding reachRight
+    reach-below e = ltb-true _ _ (and-left _ _ e)
+
+    reach-others : reachRight s i ≡ true → names (reachOf s i) i ≡ false
+    unfolding reachRight
+    reach-others e = not-true _ (and-left _ _ (and-right (ltb (reachOf s i) (2 ^ s .n)) _ e))
+
+    reach-none : reachRight s i ≡ true → crashOf s i ≡ 0 → reachOf s i ≡ 0
+    unfolding reachRight
+    reach-none e z =
+        let crashing = and-right (not (names (reachOf s i) i)) _ (and-right (ltb (reachOf s i) (2 ^ s .n)) _ e) in
+        eqb-true _ _ (implied (eqb (crashOf s i) 0) _ crashing (eq-eqb _ _ z))
+
+    pub process-question-rules : processQuestion s i ≡ 0 → ProcessRules s i
+    unfolding processQuestion
+    process-question-rules e =
+        let p4 = passed _ 4 _ (omega arith) e in
+        let p5 = passed _ 5 _ (omega arith) (p4 .1) in
+        let p6 = passed _ 6 _ (omega arith) (p5 .1) in
+        record {
+          vote = leb-true _ _ (p4 .0);
+          crash = leb-true _ _ (p5 .0);
+          reach = reach-below (p6 .0);
+          not-own = reach-others (p6 .0);
+          never = reach-none (p6 .0);
+        }
+
+    rules-reach-right : ProcessRules s i → reachRight s i ≡ true
+    unfolding reachRight
+    rules-reach-right r =
+        rw (
+          lt-ltb (reachOf s i) (2 ^ s .n) (r .reach),
+          r .not-own,
+          implies (eqb (crashOf s i) 0) (eqb (reachOf s i) 0) (λ z. eq-eqb _ _ (r .never (eqb-true _ _ z))),
+        )
+
+    pub process-rules-question : ProcessRules s i → processQuestion s i ≡ 0
+    unfolding processQuestion ask
+    process-rules-question r = rw (le-leb (voteOf s i) 1 (r .vote), le-leb (crashOf s i) (s .t + 1) (r .crash), rules-reach-right r)
+
+  table-lengths : tablesLong s ≡ true → (length (s .votes) ≡ s .n) × ((length (s .crashes) ≡ s .n) × (length (s .reaches) ≡ s .n))
+  unfolding tablesLong
+  table-lengths e =
+      let others = and-right (eqb (length (s .votes)) (s .n)) _ e in
+      (eqb-true _ _ (and-left _ _ e), (eqb-true _ _ (and-left _ _ others), eqb-true _ _ (and-right (eqb (length (s .crashes)) (s .n)) _ others)))
+
+  module _ (limit : ℕ) (answers : Bool) where
+    pub question-accepted : question s limit answers ≡ 0 → Accepted s limit answers
+    unfolding question
+    question-accepted e =
+        let p1 = passed _ 1 _ (omega arith) e in
+        let p2 = passed _ 2 _ (omega arith) (p1 .1) in
+        let p3 = passed _ 3 _ (omega arith) (p2 .1) in
+        let each = and-then-passed _ _ (p3 .1) in
+        let p7 = passed _ 7 _ (omega arith) (each .1) in
+        let n-low = within-low _ _ _ (p1 .0) in
+        let t-high = within-high _ _ _ (p2 .0) in
+        let long = table-lengths (and-left _ answers (p3 .0)) in
+        record {
+          n-low = n-low;
+          n-high = within-high _ _ _ (p1 .0);
+          votes-long = long .0;
+          crashes-long = long .1 .0;
+          reaches-long = long .1 .1;
+          answers-long = and-right (tablesLong s) _ (p3 .0);
+          rules = record {
+            t-low = within-low _ _ _ (p2 .0);
+            t-high = omega arith;
+            process = λ i l. process-question-rules i (ask-each-passed _ _ (each .0) i l);
+            few = leb-true _ _ (p7 .0);
+          };
+        }
+
+    pub accepted-question : Accepted s limit answers → question s limit answers ≡ 0
+    unfolding question ask andThen tablesLong
+    accepted-question a =
+        let n-low = a .n-low in
+        let t-high = a .rules .t-high in
+        rw (
+          within-is 4 (s .n) limit n-low (a .n-high),
+          within-is 3 (s .t) (s .n - 1) (a .rules .t-low) (omega arith),
+          eq-eqb (length (s .votes)) (s .n) (a .votes-long),
+          eq-eqb (length (s .crashes)) (s .n) (a .crashes-long),
+          eq-eqb (length (s .reaches)) (s .n) (a .reaches-long),
+          a .answers-long,
+          ask-each-passes (s .n) (processQuestion s) (λ i l. process-rules-question i (a .rules .process i l)),
+          le-leb (crashCount s) (s .t) (a .rules .few),
+        )

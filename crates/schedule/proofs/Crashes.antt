@@ -1,0 +1,26 @@
+-- f counts the processes that crash in rounds 1 to t + 1, since there are no other crash rounds but 0. Assumes nothing.
+use mathlib.Core.Path.{_≡_, sym, ap, _∙_}
+use mathlib.Core.Logic.{inl, inr}
+use mathlib.Core.Bool.{not}
+use Prim.Native.Nat.{ℕ, _+_, _<_}
+use native.Mathlib.Nat.{eq-zero-or-pos}
+use native.Mathlib.Omega.{arith}
+use lib.Dec.{eqb}
+use borrow.Author.Tests.{eq-eqb, ne-eqb}
+use Rattle.laws.specs.Test.{within}
+use Rattle.laws.proofs.Test.{within-is, within-not-low}
+use Rattle.laws.proofs.Counting.{count-same}
+use Rattle.schedule.specs.Schedule.{Schedule, crashOf, crashCount, crashedBy}
+use Rattle.schedule.specs.Questions.{Rules}
+
+module _ (s : Schedule) (ok : Rules s) where
+  counted-once : (i : ℕ) → i < s .n → within 1 (crashOf s i) (s .t + 1) ≡ not (eqb (crashOf s i) 0)
+  counted-once i l =
+      elim (eq-zero-or-pos (crashOf s i)) [
+        | inl z ↦ within-not-low 1 (crashOf s i) (s .t + 1) (omega arith) ∙ sym (ap not (eq-eqb (crashOf s i) 0 z))
+        | inr p ↦ within-is 1 (crashOf s i) (s .t + 1) p (ok .process i l .crash) ∙ sym (ap not (ne-eqb (crashOf s i) 0 (λ z. omega arith)))
+      ]
+
+  pub all-crashes : crashedBy s (s .t + 1) ≡ crashCount s
+  unfolding crashedBy crashCount
+  all-crashes = count-same (s .n) (λ i. within 1 (crashOf s i) (s .t + 1)) (λ i. not (eqb (crashOf s i) 0)) counted-once
