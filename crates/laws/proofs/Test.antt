@@ -48,6 +48,9 @@ or-false false b e = (refl, e)
 pub and-both : (a b : Bool) → a ≡ true → b ≡ true → a && b ≡ true
 and-both a b p q = rw (p, q)
 
+pub and-no-left : (a b : Bool) → a ≡ false → a && b ≡ false
+and-no-left a b e = rw e
+
 pub and-no-right : (a b : Bool) → b ≡ false → a && b ≡ false
 and-no-right true b e = e
 and-no-right false b e = refl

@@ -3,15 +3,15 @@
 use mathlib.Core.Path.{_≡_, refl, sym, ap, _∙_}
 use mathlib.Core.Logic.{_⊎_, inl, inr, _≢_}
 use mathlib.Core.List.{List}
-use mathlib.Core.Bool.{true, false, _&&_, true≢false}
+use mathlib.Core.Bool.{true, false, not, _&&_, _||_, true≢false}
 use Prim.Native.Nat.{ℕ, zero, suc, _-_, _<_}
 use native.Mathlib.Nat.{not-suc-le-zero}
 use native.Mathlib.Numerals.{add-one}
 use native.Mathlib.Omega.{arith}
 use lib.Dec.{ltb, leb, eqb}
-use borrow.Author.Tests.{eqb-true, eqb-false, eq-eqb, leb-false, ltb-true, lt-ltb}
+use borrow.Author.Tests.{eqb-true, eqb-false, eq-eqb, ne-eqb, leb-false, ltb-true, lt-ltb}
 use Rattle.laws.specs.Below.{fold}
-use Rattle.laws.proofs.Test.{true-or-false, and-left, and-right, and-both, or-left, or-right, or-true}
+use Rattle.laws.proofs.Test.{true-or-false, and-left, and-right, and-both, and-no-left, and-no-right, or-left, or-right, or-true, or-false, cond-true, cond-false}
 use Rattle.laws.proofs.Counting.{Some, split, below-or-top, count-short}
 use Rattle.laws.proofs.Folds.{largest-high, largest-is}
 use Rattle.schedule.specs.Schedule.{Schedule}
@@ -71,47 +71,57 @@ module _ (P : Protocol) (s : Schedule) (states : List (P .State)) where
   keeps-found k found z (one i e l d first) =
       one i e (omega arith) d (below-or-top (λ j. j ≢ i → R j ≢ 0 → Before i j) k first (λ _ n. absurd (n z)))
 
-  takes-over : (k found : ℕ) → R k ≢ 0 → found ≡ 0 ⊎ Before k (found - 1) → Found k found → Found (suc k) (suc k)
-  takes-over k found d (inl z) (none e all) = one k refl (omega arith) d (below-or-top (λ j. j ≢ k → R j ≢ 0 → Before k j) k (λ j jl _ n. absurd (n (all j jl))) (λ n _. absurd (n refl)))
-  takes-over k found d (inr b) (none e all) = one k refl (omega arith) d (below-or-top (λ j. j ≢ k → R j ≢ 0 → Before k j) k (λ j jl _ n. absurd (n (all j jl))) (λ n _. absurd (n refl)))
-  takes-over k found d (inl z) (one i e l di first) = absurd (omega arith)
+  takes-over : (k found : ℕ) → R k ≢ 0 → (eqb found 0 ≡ true) ⊎ (before P s states k (found - 1) ≡ true) → Found k found → Found (suc k) (suc k)
+  takes-over k found d b (none e all) =
+      one k refl (omega arith) d (below-or-top (λ j. j ≢ k → R j ≢ 0 → Before k j) k (λ j jl _ n. absurd (n (all j jl))) (λ n _. absurd (n refl)))
+  takes-over k found d (inl z) (one i e l di first) = absurd (let q = eqb-true found 0 z in omega arith)
   takes-over k found d (inr b) (one i e l di first) =
       one k refl (omega arith) d (below-or-top (λ j. j ≢ k → R j ≢ 0 → Before k j) k each (λ n _. absurd (n refl)))
     where
       each : (j : ℕ) → j < k → j ≢ k → R j ≢ 0 → Before k j
       each j jl _ dj =
           let q : found - 1 ≡ i = omega arith in
-          let b′ : Before k i = rw q at b in
+          let b′ : Before k i = is-before k i (rw q at b) in
           elim (true-or-false (eqb j i)) [
             | inl x ↦ rw (eqb-true j i x) b′
             | inr x ↦ before-trans k i j b′ (first j jl (eqb-false j i x) dj)
           ]
 
-  stays-first : (k found : ℕ) → found ≢ 0 → (Before k (found - 1) → ⊥) → Found k found → Found (suc k) found
-  stays-first k found nz nb (none e all) = absurd (nz e)
-  stays-first k found nz nb (one i e l d first) =
+  stays-first : (k found : ℕ) → eqb found 0 ≡ false → before P s states k (found - 1) ≡ false → Found k found → Found (suc k) found
+  stays-first k found z b (none e all) = absurd (eqb-false found 0 z e)
+  stays-first k found z b (one i e l d first) =
       let q : found - 1 ≡ i = omega arith in
-      let nb′ : Before k i → ⊥ = rw q at nb in
-      one i e (omega arith) d (below-or-top (λ j. j ≢ i → R j ≢ 0 → Before i j) k first
-      (λ _ _. elim (before-or i k l) [ inl b ↦ b | inr b ↦ absurd (nb′ b) ]))
+      let not-before : before P s states k i ≡ false = rw q at b in
+      one i e (omega arith) d
+      (below-or-top (λ j. j ≢ i → R j ≢ 0 → Before i j) k first (λ _ _.
+      elim (before-or i k l) [ inl h ↦ h | inr h ↦ absurd (true≢false (sym (before-is k i h) ∙ not-before)) ]))
 
-  found-step : (k found : ℕ) → Found k found → Found (suc k) (firstWith P s states k found)
-  unfolding firstWith
-  found-step k found h =
-      elim (true-or-false (eqb (R k) 0)) [
-        | inl z ↦ rw z (keeps-found k found (eqb-true (R k) 0 z) h)
-        | inr d ↦
-            rw d
-            (elim (true-or-false (eqb found 0)) [
-              | inl z ↦ rw (z, add-one k) (takes-over k found (eqb-false (R k) 0 d) (inl (eqb-true found 0 z)) h)
-              | inr z ↦
-                  rw z
-                  (elim (true-or-false (before P s states k (found - 1))) [
-                    | inl b ↦ rw (b, add-one k) (takes-over k found (eqb-false (R k) 0 d) (inr (is-before k (found - 1) b)) h)
-                    | inr b ↦ rw b (stays-first k found (eqb-false found 0 z) (λ x. true≢false (sym (before-is k (found - 1) x) ∙ b)) h)
-                  ])
-            ])
-      ]
+  module _ (k found : ℕ) where
+    passes-over : R k ≡ 0 → firstWith P s states k found ≡ found
+    unfolding firstWith
+    passes-over z = cond-false _ _ _ (and-no-left _ _ (ap not (eq-eqb (R k) 0 z)))
+
+    puts-first : R k ≢ 0 → (eqb found 0 || before P s states k (found - 1)) ≡ true → firstWith P s states k found ≡ suc k
+    unfolding firstWith
+    puts-first d b = cond-true _ _ _ (and-both _ _ (ap not (ne-eqb (R k) 0 d)) b) ∙ add-one k
+
+    leaves-first : (eqb found 0 || before P s states k (found - 1)) ≡ false → firstWith P s states k found ≡ found
+    unfolding firstWith
+    leaves-first b = cond-false _ _ _ (and-no-right (not (eqb (R k) 0)) _ b)
+
+    found-step : Found k found → Found (suc k) (firstWith P s states k found)
+    found-step h =
+        elim (true-or-false (eqb (R k) 0)) [
+          | inl z ↦ rw (passes-over (eqb-true (R k) 0 z)) (keeps-found k found (eqb-true (R k) 0 z) h)
+          | inr d ↦
+              let nz = eqb-false (R k) 0 d in
+              elim (true-or-false (eqb found 0 || before P s states k (found - 1))) [
+                | inl b ↦ rw (puts-first nz b) (takes-over k found nz (or-true (eqb found 0) (before P s states k (found - 1)) b) h)
+                | inr b ↦
+                    let n = or-false (eqb found 0) (before P s states k (found - 1)) b in
+                    rw (leaves-first b) (stays-first k found (n .0) (n .1) h)
+              ]
+        ]
 
   found-all : (k : ℕ) → Found k (fold k (firstWith P s states) 0)
   unfolding fold

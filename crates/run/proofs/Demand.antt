@@ -10,16 +10,16 @@ use lib.Dec.{leb}
 use borrow.Author.Tests.{leb-true, leb-false}
 use Rattle.laws.specs.Below.{sum}
 use Rattle.laws.proofs.Test.{true-or-false}
-use Rattle.schedule.specs.Schedule.{Schedule, crashCount, crashedBy}
+use Rattle.schedule.specs.Schedule.{Schedule, crashedBy}
 use Rattle.schedule.specs.Questions.{Rules}
 use Rattle.run.specs.Protocol.{fcwfa}
 use Rattle.run.specs.Run.{stateAt, after, final}
-use Rattle.run.specs.Report.{messages}
+use Rattle.run.specs.Report.{messages, report}
 use Rattle.run.specs.Demand.{Decides, CompletesUndecided, roundB, Demand3}
 use Rattle.run.specs.Facts.{CrashesSoFar}
 use Rattle.run.proofs.World.{Plays, crashes}
 use Rattle.run.proofs.States.{stays, undecided}
-use Rattle.run.proofs.EarlyDecision.{IsRoundB, crashes-so-far, by-round-b}
+use Rattle.run.proofs.EarlyDecision.{LateEnough, crashes-so-far, by-round-b}
 use Rattle.run.proofs.Votes.{abort, abort-2, commit-2}
 use Rattle.run.proofs.Agreement.{agreement}
 use Rattle.run.proofs.Messages.{bounded}
@@ -51,33 +51,40 @@ module _ (s : Schedule) (ok : Rules s) where
       let b = ap (λ m. m .estimate) (end-is i) in
       record { process = l; round = omega arith; not-none = λ z. omega arith; value = omega arith }
 
-  abbrev B : ℕ
-  B = roundB (crashCount s) (s .t)
+  abbrev f : ℕ
+  f = report fcwfa s .f
 
-  is-round-b : IsRoundB (runWorld s) B
+  abbrev B : ℕ
+  B = roundB f (s .t)
+
+  -- B = f + 2 is late enough if it is at most t, and so is f + 1 otherwise
+  late-enough : LateEnough (runWorld s) B
   unfolding roundB
-  is-round-b =
-      let f = crashes-all s ok in
+  late-enough =
+      let all = crashes-all s ok in
+      let few = ok .few in
       let tl = ok .t-low in
-      elim (true-or-false (leb (crashCount s) (s .t - 2))) [
-        | inl e ↦ let h = leb-true (crashCount s) (s .t - 2) e in inl (omega arith, rw e (omega arith))
-        | inr e ↦ let h = leb-false (crashCount s) (s .t - 2) e in inr (omega arith, rw e (omega arith))
+      elim (true-or-false (leb f (s .t - 2))) [
+        | inl e ↦
+            let h = leb-true f (s .t - 2) e in
+            rw e (record { low = omega arith; high = omega arith; before-t = λ b. omega arith; at-t = λ b. omega arith })
+        | inr e ↦
+            let h = leb-false f (s .t - 2) e in
+            rw e (record { low = omega arith; high = omega arith; before-t = λ b. omega arith; at-t = λ b. omega arith })
       ]
 
-  round-b-high : B ≤ suc (s .t)
-  round-b-high = let f = laws s ok .few in elim is-round-b [ inl h ↦ omega arith | inr h ↦ omega arith ]
-
-  -- the rounds of the sum, numbered from 0
-  messages-are : messages fcwfa s ≡ sum (suc (s .t)) (λ r. sum (s .n) (sentOf fcwfa 1 Stands behaves s r))
+  messages-are : report fcwfa s .messages ≡ sum (suc (s .t)) (λ r. sum (s .n) (sentOf fcwfa 1 Stands behaves s r))
   unfolding messages
-  messages-are = ap (λ k. sum k (λ r. sum (s .n) (sentOf fcwfa 1 Stands behaves s r))) (add-one (s .t))
+  messages-are = sum-as _ (suc (s .t)) (omega arith)
+    where
+      sum-as : (k n : ℕ) → k ≡ n → sum k (λ r. sum (s .n) (sentOf fcwfa 1 Stands behaves s r)) ≡ sum n (λ r. sum (s .n) (sentOf fcwfa 1 Stands behaves s r))
+      sum-as k n e = ap (λ j. sum j (λ r. sum (s .n) (sentOf fcwfa 1 Stands behaves s r))) e
 
-  messages-high : messages fcwfa s ≤ s .n * s .n * min (B + 1) (s .t + 1)
+  messages-high : report fcwfa s .messages ≤ s .n * s .n * min (suc B) (suc (s .t))
   messages-high =
-      let sums = bounded (runWorld s) (laws s ok) (rules s ok) (s .n) (sentOf fcwfa 1 Stands behaves s)
-      (λ r j _. sent-high fcwfa 1 Stands behaves s ok r j) (sent-by fcwfa 1 Stands behaves s) B is-round-b in
-      let spoken : min (suc B) (suc (s .t)) ≤ min (B + 1) (s .t + 1) = omega arith in
-      le-trans (le-trans (le-of-eq messages-are) sums) (mul-le-mul-left (s .n * s .n) spoken)
+      le-trans (le-of-eq messages-are)
+      (bounded (runWorld s) (laws s ok) (rules s ok) (s .n) (sentOf fcwfa 1 Stands behaves s)
+      (λ r j _. sent-high fcwfa 1 Stands behaves s ok r j) (sent-by fcwfa 1 Stands behaves s) B late-enough)
 
   pub demand-3 : Demand3 s
   demand-3 = record {
@@ -96,9 +103,9 @@ module _ (s : Schedule) (ok : Rules s) where
     round-b = λ i h.
         let c = h .completes-it in
         let u = h .undecided in
-        let g = by-round-b (runWorld s) (laws s ok) (rules s ok) B i is-round-b (c .process) (alive s B i round-b-high (c .completed)) in
+        let g = by-round-b (runWorld s) (laws s ok) (rules s ok) B i late-enough (c .process) (alive s B i (late-enough .high) (c .completed)) in
         omega arith;
-    message-bound = messages-high;
+    message-bound = le-trans messages-high (mul-le-mul-left (s .n * s .n) (omega arith));
     weak-fast-abort = λ z i h.
         let tl = ok .t-low in
         let vote = vote-is fcwfa 1 Stands behaves s (z .voter) (z .process) ∙ z .vote in
@@ -106,7 +113,7 @@ module _ (s : Schedule) (ok : Rules s) where
         lasts i 0 2 (h .process) (omega arith) (omega arith) (g .0) (g .1);
     fast-commit = λ all none i l.
         let tl = ok .t-low in
-        let f = crashes-all s ok in
+        let every = crashes-all s ok in
         let no-crash : crashes (runWorld s) (suc (s .t)) ≡ 0 = omega arith in
         let g = commit-2 (runWorld s) (laws s ok) (rules s ok) (λ j jl. vote-is fcwfa 1 Stands behaves s j jl ∙ all j jl) no-crash i l in
         lasts i 1 2 l (omega arith) (omega arith) (g .0) (g .1);

@@ -17,9 +17,13 @@ use Rattle.run.proofs.States.{Way, way, stays-put, told, not-told, unde
 module _ (w : World) where
   open World w using (n, t, start, crash, estimate, decided, code)
 
-  -- B is the round f + 2, or f + 1 where that is beyond t
-  abbrev pub IsRoundB : ℕ → Type 0
-  IsRoundB B = ((crashes w (suc t) + 2 ≤ t) × (B ≡ crashes w (suc t) + 2)) ⊎ ((t < crashes w (suc t) + 2) × (B ≡ crashes w (suc t) + 1))
+  -- a round B by which every process that completes it has decided: by the crashes so far, the crashes of the run are too few for it to end
+  -- undecided before round t, or in round t; and round t + 1 never does
+  pub record LateEnough (B : ℕ) : Type 0 where
+    pub low : 2 ≤ B
+    pub high : B ≤ suc t
+    pub before-t : B < t → crashes w (suc t) + 2 ≤ B
+    pub at-t : B ≡ t → crashes w (suc t) < t
 
   module _ (laws : RoundLaws w) (rules : DecisionRules w) where
     pub crashes-so-far : (r i : ℕ) → Plays w r i → 0 < r → decided (suc r) i ≡ 0 → (r < t) × (suc r < t → r ≤ crashes w (suc r)) × (suc r ≡ t → t ≤ crashes w (suc r))
@@ -38,25 +42,21 @@ module _ (w : World) where
               | waits _ h ↦ (h .not-last, (λ b. let x = h .not-quiet b in omega arith), (λ b. let x = h .not-count b in omega arith))
             ]
 
-    pub by-round-b : (B i : ℕ) → IsRoundB B → i < n → B < crash i → 0 < decided B i
-    by-round-b zero i h l a = absurd (elim h [ inl x ↦ omega arith | inr x ↦ omega arith ])
+    pub by-round-b : (B i : ℕ) → LateEnough B → i < n → B < crash i → 0 < decided B i
+    by-round-b zero i h l a = absurd (let lo = h .low in omega arith)
     by-round-b (suc r) i h l a =
-        let f = laws .few in
-        let tl = laws .t-low in
         elim (eq-zero-or-pos (decided (suc r) i)) [
           | inr p ↦ p
           | inl u ↦
-              absurd (elim h [
-                | inl x ↦
-                    let o : Plays w r i = record { time = omega arith; process = l; alive = a; undecided = undecided w laws r (suc r) i (omega arith) (omega arith) l u } in
-                    let k = crashes-so-far r i o (omega arith) u in
-                    let m = crashes-mono w (suc r) (suc t) (omega arith) in
-                    elim (split t (suc r)) [ inl b ↦ let y = k .2 (omega arith) in omega arith | inr b ↦ let y = k .1 b in omega arith ]
-                | inr x ↦
-                    let o : Plays w r i = record { time = omega arith; process = l; alive = a; undecided = undecided w laws r (suc r) i (omega arith) (omega arith) l u } in
-                    let k = crashes-so-far r i o (omega arith) u in
-                    let m = crashes-mono w (suc r) (suc t) (omega arith) in
-                    let y = k .2 (let z = k .0 in omega arith) in
-                    omega arith
+              let lo = h .low in
+              let hi = h .high in
+              let before = undecided w laws r (suc r) i (omega arith) (omega arith) l u in
+              let o : Plays w r i = record { time = omega arith; process = l; alive = a; undecided = before } in
+              let k = crashes-so-far r i o (omega arith) u in
+              let more = crashes-mono w (suc r) (suc t) (omega arith) in
+              let rt = k .0 in
+              absurd (elim (split t (suc r)) [
+                | inl b ↦ let y = k .2 (omega arith) in let z = h .at-t (omega arith) in omega arith
+                | inr b ↦ let y = k .1 b in let z = h .before-t b in omega arith
               ])
         ]

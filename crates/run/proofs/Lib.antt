@@ -7,15 +7,15 @@ pub mod Votes
 pub mod Agreement
 pub mod Messages
 pub mod Rows
-pub mod Behaviour
 pub mod Chosen
+pub mod Behaviour
 pub mod FcwfaMember
 pub mod Rounds
 pub mod CrashRounds
 pub mod RunWorld
 pub mod FcwfaRun
 pub mod Demand
+pub mod Reported
 pub mod Deciders
 pub mod NoneRefused
-pub mod Reported
 pub mod Theorem

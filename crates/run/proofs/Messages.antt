@@ -9,7 +9,7 @@ use Rattle.laws.specs.Below.{sum}
 use Rattle.laws.proofs.Sums.{sum-zero, sum-high, sum-until}
 use Rattle.run.proofs.World.{World, RoundLaws, DecisionRules}
 use Rattle.run.proofs.States.{range, stays}
-use Rattle.run.proofs.EarlyDecision.{IsRoundB, by-round-b}
+use Rattle.run.proofs.EarlyDecision.{LateEnough, by-round-b}
 
 module _ (w : World) where
   open World w using (n, t, start, crash, estimate, decided, code)
@@ -17,7 +17,7 @@ module _ (w : World) where
   module _ (laws : RoundLaws w) (rules : DecisionRules w) where
     module _ (x : ℕ) (m : ℕ → ℕ → ℕ) (small : (r j : ℕ) → r ≤ t → j < n → m r j ≤ x)
         (real : (r j : ℕ) → r ≤ t → j < n → 0 < m r j → (r < crash j) × ((decided r j ≡ 0) ⊎ (decided r j ≡ r))) where
-      pub bounded : (B : ℕ) → IsRoundB w B → sum (suc t) (λ r. sum n (m r)) ≤ x * n * min (suc B) (suc t)
+      pub bounded : (B : ℕ) → LateEnough w B → sum (suc t) (λ r. sum n (m r)) ≤ x * n * min (suc B) (suc t)
       bounded B h =
           sum-until (suc t) (suc B) (x * n) (λ r. sum n (m r)) (λ r rl. sum-high n x (m r) (λ j jl. small r j (omega arith) jl))
           (λ r rl br. sum-zero n (m r) (λ j jl. silence r j (omega arith) br jl))

@@ -30,11 +30,11 @@ module _ (s : Schedule) (ok : Rules s) where
 
   decided-at : (i : ℕ) → i < s .n → ended i ≢ 0 → getD (report fcwfa s .decisions) i 2 ≡ value i
   unfolding decisionOf
-  decided-at i l d = getD-tabulate (s .n) (decisionOf fcwfa (final fcwfa s)) i 2 l ∙ cond-false (eqb (ended i) 0) 2 (value i) (ne-eqb (ended i) 0 d)
+  decided-at i l d = getD-tabulate (s .n) (decisionOf fcwfa (final fcwfa s)) i 2 l ∙ cond-false (eqb (ended i) 0) _ (value i) (ne-eqb (ended i) 0 d)
 
   undecided-at : (i : ℕ) → i < s .n → ended i ≡ 0 → getD (report fcwfa s .decisions) i 2 ≡ 2
   unfolding decisionOf
-  undecided-at i l z = getD-tabulate (s .n) (decisionOf fcwfa (final fcwfa s)) i 2 l ∙ cond-true (eqb (ended i) 0) 2 (value i) (eq-eqb (ended i) 0 z)
+  undecided-at i l z = getD-tabulate (s .n) (decisionOf fcwfa (final fcwfa s)) i 2 l ∙ cond-true (eqb (ended i) 0) 2 _ (eq-eqb (ended i) 0 z)
 
   value-low : (i : ℕ) → i < s .n → value i ≤ 1
   value-low i l =

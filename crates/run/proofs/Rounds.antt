@@ -3,13 +3,13 @@
 use mathlib.Core.Path.{_≡_, ap, _∙_}
 use mathlib.Core.Logic.{_⊎_, inl, inr, _≢_}
 use mathlib.Core.List.{List}
-use mathlib.Core.Bool.{Bool, true, false, cond, not, _&&_}
+use mathlib.Core.Bool.{true, false, not}
 use Prim.Native.Nat.{ℕ, suc, _+_, _≤_, _<_}
 use native.Mathlib.Omega.{arith}
-use lib.Dec.{ltb, eqb}
+use lib.Dec.{eqb}
 use lib.Count.{ones}
 use borrow.Author.Tests.{eqb-true, eqb-false, eq-eqb, ne-eqb, ltb-true, lt-ltb, le-ltb}
-use Rattle.laws.proofs.Test.{true-or-false, and-both, and-no-right, or-left, or-right, or-true, or-neither, cond-true, cond-false}
+use Rattle.laws.proofs.Test.{true-or-false, and-both, and-no-left, and-no-right, or-left, or-right, or-true, or-neither, cond-true, cond-false}
 use Rattle.laws.proofs.Counting.{split}
 use Rattle.laws.proofs.Lists.{getD-tabulate}
 use Rattle.member.specs.Saying.{nothing}
@@ -21,22 +21,18 @@ use Rattle.run.specs.Facts.{WhoHearsWhom, WhatIsSent, WhoMoves}
 
 module _ (s : Schedule) (r i : ℕ) where
   -- a process completes the rounds before its crash round, and all of them if that is 0
-  pub completes-if : (crashOf s i ≡ 0) ⊎ (r < crashOf s i) → completes s r i ≡ true
-  unfolding completes
-  completes-if (inl z) = or-left (eqb (crashOf s i) 0) (ltb r (crashOf s i)) (eq-eqb (crashOf s i) 0 z)
-  completes-if (inr l) = or-right (eqb (crashOf s i) 0) (ltb r (crashOf s i)) (lt-ltb r (crashOf s i) l)
-
   pub completes-not : 1 ≤ crashOf s i → crashOf s i ≤ r → completes s r i ≡ false
   unfolding completes
-  completes-not lo hi = or-neither (eqb (crashOf s i) 0) (ltb r (crashOf s i)) (ne-eqb (crashOf s i) 0 (λ z. omega arith)) (le-ltb r (crashOf s i) hi)
+  completes-not lo hi = or-neither _ _ (ne-eqb (crashOf s i) 0 (λ z. omega arith)) (le-ltb r _ (omega arith))
+
+  pub completes-if : (crashOf s i ≡ 0) ⊎ (r < crashOf s i) → completes s r i ≡ true
+  unfolding completes
+  completes-if (inl z) = or-left _ _ (eq-eqb (crashOf s i) 0 z)
+  completes-if (inr l) = or-right (eqb (crashOf s i) 0) _ (lt-ltb r _ (omega arith))
 
   pub if-completes : completes s r i ≡ true → (crashOf s i ≡ 0) ⊎ (r < crashOf s i)
   unfolding completes
-  if-completes e =
-      elim (or-true (eqb (crashOf s i) 0) (ltb r (crashOf s i)) e) [
-        | inl z ↦ inl (eqb-true (crashOf s i) 0 z)
-        | inr l ↦ inr (ltb-true r (crashOf s i) l)
-      ]
+  if-completes e = elim (or-true (eqb (crashOf s i) 0) _ e) [ inl z ↦ inl (eqb-true (crashOf s i) 0 z) | inr l ↦ inr (ltb-true r (crashOf s i) l) ]
 
   -- in a round it completes it, crashes in it, or crashed before
   pub data Part : Type 0 where
@@ -58,75 +54,69 @@ module _ (s : Schedule) (r i : ℕ) where
 
 module _ (P : Protocol) (s : Schedule) where
   module _ (r : ℕ) (states : List (P .State)) (j : ℕ) where
-    says : ℕ
-    says = P .says (stateAt P states j)
+    abbrev said : ℕ
+    said = P .says (stateAt P states j)
 
     module _ (i : ℕ) where
-      abbrev reached : Bool
-      reached = eqb (crashOf s j) r && names (reachOf s j) i
-
-      hears-completing : completes s r j ≡ true → hearsFrom s r i j ≡ true
+      unnamed-not : r ≢ 0 → crashOf s j ≡ r → names (reachOf s j) i ≡ false → hearsFrom s r i j ≡ false
       unfolding hearsFrom
-      hears-completing c = or-left (completes s r j) reached c
+      unnamed-not nz e n = or-neither _ _ (completes-not s r j (omega arith) (omega arith)) (and-no-right (eqb (crashOf s j) r) _ n)
 
-      hears-named : crashOf s j ≡ r → names (reachOf s j) i ≡ true → hearsFrom s r i j ≡ true
+      gone-not : 1 ≤ crashOf s j → crashOf s j < r → hearsFrom s r i j ≡ false
       unfolding hearsFrom
-      hears-named e n = or-right (completes s r j) reached (and-both (eqb (crashOf s j) r) (names (reachOf s j) i) (eq-eqb (crashOf s j) r e) n)
+      gone-not lo hi = or-neither _ _ (completes-not s r j lo (omega arith)) (and-no-left _ _ (ne-eqb (crashOf s j) r (λ e. omega arith)))
 
-      hears-not-unnamed : r ≢ 0 → crashOf s j ≡ r → names (reachOf s j) i ≡ false → hearsFrom s r i j ≡ false
+      completing-heard : completes s r j ≡ true → hearsFrom s r i j ≡ true
       unfolding hearsFrom
-      hears-not-unnamed nz e n =
-          or-neither (completes s r j) reached (completes-not s r j (omega arith) (omega arith)) (and-no-right (eqb (crashOf s j) r) (names (reachOf s j) i) n)
+      completing-heard c = or-left _ _ c
 
-      hears-not-gone : 1 ≤ crashOf s j → crashOf s j < r → hearsFrom s r i j ≡ false
+      named-heard : crashOf s j ≡ r → names (reachOf s j) i ≡ true → hearsFrom s r i j ≡ true
       unfolding hearsFrom
-      hears-not-gone lo hi =
-          or-neither (completes s r j) reached (completes-not s r j lo (omega arith)) (ap (λ b. b && names (reachOf s j) i) (ne-eqb (crashOf s j) r (λ e. omega arith)))
+      named-heard e n = or-right (completes s r j) _ (and-both _ _ (eq-eqb (crashOf s j) r e) n)
 
-      code-is : hearsFrom s r i j ≡ true → codeHeard P s r states i j ≡ P .says (stateAt P states j)
+      code-said : hearsFrom s r i j ≡ true → codeHeard P s r states i j ≡ said
       unfolding codeHeard
-      code-is h = cond-true (hearsFrom s r i j) (P .says (stateAt P states j)) nothing h
+      code-said h = cond-true (hearsFrom s r i j) _ _ h
 
       code-nothing : hearsFrom s r i j ≡ false → codeHeard P s r states i j ≡ nothing
       unfolding codeHeard
-      code-nothing h = cond-false (hearsFrom s r i j) (P .says (stateAt P states j)) nothing h
+      code-nothing h = cond-false (hearsFrom s r i j) _ _ h
 
       pub who-hears-whom : WhoHearsWhom P s r states i j
       who-hears-whom = record {
-        completing = λ c. code-is (hears-completing (c .completed));
-        named = λ e n. code-is (hears-named e n);
-        unnamed = λ nz e n. code-nothing (hears-not-unnamed nz e n);
-        silent = λ lo hi. code-nothing (hears-not-gone lo hi);
+        completing = λ c. code-said (completing-heard (c .completed));
+        named = λ e n. code-said (named-heard e n);
+        unnamed = λ nz e n. code-nothing (unnamed-not nz e n);
+        silent = λ lo hi. code-nothing (gone-not lo hi);
       }
 
-    -- what is sent once something is said
-    abbrev spoken : ℕ
-    spoken = cond (completes s r j) (s .n) (cond (eqb (crashOf s j) r) (ones (reachOf s j)) 0)
-
-    speaks : P .says (stateAt P states j) ≢ nothing → sent P s r states j ≡ spoken
+    sends-nothing : said ≡ nothing → sent P s r states j ≡ 0
     unfolding sent
-    speaks h = cond-false (eqb (P .says (stateAt P states j)) nothing) 0 spoken (ne-eqb (P .says (stateAt P states j)) nothing h)
+    sends-nothing h = cond-true _ _ _ (eq-eqb said nothing h)
 
-    sends-nothing : P .says (stateAt P states j) ≡ nothing → sent P s r states j ≡ 0
+    sends-to-all : said ≢ nothing → completes s r j ≡ true → sent P s r states j ≡ s .n
     unfolding sent
-    sends-nothing h = cond-true (eqb (P .says (stateAt P states j)) nothing) 0 spoken (eq-eqb (P .says (stateAt P states j)) nothing h)
+    sends-to-all h c = cond-false _ 0 _ (ne-eqb said nothing h) ∙ cond-true (completes s r j) (s .n) _ c
 
-    not-completing : completes s r j ≡ false → spoken ≡ cond (eqb (crashOf s j) r) (ones (reachOf s j)) 0
-    not-completing h = cond-false (completes s r j) (s .n) (cond (eqb (crashOf s j) r) (ones (reachOf s j)) 0) h
+    sends-to-reach : said ≢ nothing → completes s r j ≡ false → crashOf s j ≡ r → sent P s r states j ≡ ones (reachOf s j)
+    unfolding sent
+    sends-to-reach h c e =
+        cond-false _ 0 _ (ne-eqb said nothing h) ∙ cond-false (completes s r j) _ _ c ∙ cond-true (eqb (crashOf s j) r) (ones (reachOf s j)) _ (eq-eqb (crashOf s j) r e)
+
+    sends-no-more : said ≢ nothing → completes s r j ≡ false → crashOf s j ≢ r → sent P s r states j ≡ 0
+    unfolding sent
+    sends-no-more h c e =
+        cond-false _ 0 _ (ne-eqb said nothing h) ∙ cond-false (completes s r j) _ _ c ∙ cond-false (eqb (crashOf s j) r) _ 0 (ne-eqb (crashOf s j) r e)
 
     pub what-is-sent : WhatIsSent P s r states j
     what-is-sent = record {
       says-nothing = sends-nothing;
-      completing = λ h c. speaks h ∙ cond-true (completes s r j) (s .n) (cond (eqb (crashOf s j) r) (ones (reachOf s j)) 0) (c .completed);
-      crashing = λ h nz e.
-          speaks h ∙ not-completing (completes-not s r j (omega arith) (omega arith))
-          ∙ cond-true (eqb (crashOf s j) r) (ones (reachOf s j)) 0 (eq-eqb (crashOf s j) r e);
+      completing = λ h c. sends-to-all h (c .completed);
+      crashing = λ h nz e. sends-to-reach h (completes-not s r j (omega arith) (omega arith)) e;
       silent = λ lo hi.
-          elim (true-or-false (eqb (P .says (stateAt P states j)) nothing)) [
-            | inl z ↦ sends-nothing (eqb-true (P .says (stateAt P states j)) nothing z)
-            | inr z ↦
-                speaks (eqb-false (P .says (stateAt P states j)) nothing z) ∙ not-completing (completes-not s r j lo (omega arith))
-                ∙ cond-false (eqb (crashOf s j) r) (ones (reachOf s j)) 0 (ne-eqb (crashOf s j) r (λ e. omega arith))
+          elim (true-or-false (eqb said nothing)) [
+            | inl z ↦ sends-nothing (eqb-true said nothing z)
+            | inr z ↦ sends-no-more (eqb-false said nothing z) (completes-not s r j lo (omega arith)) (λ e. omega arith)
           ];
     }
 
@@ -139,21 +129,23 @@ module _ (P : Protocol) (s : Schedule) where
     unfolding after statesAfter played
     step-is = getD-tabulate (s .n) _ i _ l
 
-    abbrev moves : Bool
-    moves = completes s (suc r) i && not (P .stopped (after P s r i))
-
-    next-moves : moves ≡ true → after P s (suc r) i ≡ P .hears (after P s r i) (rowOf P s (suc r) (statesAfter P s r) i)
+    crashed-keeps : completes s (suc r) i ≡ false → after P s (suc r) i ≡ after P s r i
     unfolding nextState after
-    next-moves h = step-is ∙ cond-true moves (P .hears (after P s r i) (rowOf P s (suc r) (statesAfter P s r) i)) (after P s r i) h
+    crashed-keeps c = step-is ∙ cond-false _ _ _ (and-no-left _ _ c)
 
-    next-keeps : moves ≡ false → after P s (suc r) i ≡ after P s r i
+    stopped-keeps : P .stopped (after P s r i) ≡ true → after P s (suc r) i ≡ after P s r i
     unfolding nextState after
-    next-keeps h = step-is ∙ cond-false moves (P .hears (after P s r i) (rowOf P s (suc r) (statesAfter P s r) i)) (after P s r i) h
+    stopped-keeps e = step-is ∙ cond-false _ _ _ (and-no-right (completes s (suc r) i) _ (ap not e))
+
+    other-hears : completes s (suc r) i ≡ true → P .stopped (after P s r i) ≡ false
+        → after P s (suc r) i ≡ P .hears (after P s r i) (rowOf P s (suc r) (statesAfter P s r) i)
+    unfolding nextState after
+    other-hears c e = step-is ∙ cond-true _ _ _ (and-both _ _ c (ap not e))
 
     pub who-moves : WhoMoves P s r i
     who-moves = record {
       opens = opens-as;
-      hears = λ c e. next-moves (and-both (completes s (suc r) i) (not (P .stopped (after P s r i))) (c .completed) (ap not e));
-      crashed = λ lo hi. next-keeps (ap (λ b. b && not (P .stopped (after P s r i))) (completes-not s (suc r) i lo hi));
-      rests = λ e. next-keeps (and-no-right (completes s (suc r) i) (not (P .stopped (after P s r i))) (ap not e));
+      hears = λ c e. other-hears (c .completed) e;
+      crashed = λ lo hi. crashed-keeps (completes-not s (suc r) i lo hi);
+      rests = stopped-keeps;
     }

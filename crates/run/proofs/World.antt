@@ -1,6 +1,6 @@
 -- A run as plain numbers, and what one round does to them: the laws that every protocol of the bench keeps, and those of FCWFA's rules.
 -- Everything that demand 3 says is shown from these laws alone, in the files after this one; that a run keeps them is shown in RunWorld.antt
--- and RunRules.antt. Assumes nothing.
+-- and FcwfaRun.antt. Assumes nothing.
 use mathlib.Core.Path.{_≡_}
 use mathlib.Core.Logic.{_⊎_}
 use Prim.Native.Nat.{ℕ, suc, _+_, _≤_, _<_}
