@@ -1,5 +1,5 @@
 -- Questions that were passed, and the answer that follows. Assumes nothing.
-use mathlib.Core.Path.{_≡_, refl}
+use mathlib.Core.Path.{_≡_, refl, sym, ap, _∙_}
 use mathlib.Core.Logic.{inl, inr}
 use mathlib.Core.Bool.{Bool, true, false}
 use Prim.Native.Nat.{ℕ, zero, suc, _+_, _<_}
@@ -10,7 +10,7 @@ use borrow.Author.Tests.{eqb-true, eqb-false, eq-eqb, ne-eqb}
 use lib.Dec.{eqb}
 use Rattle.laws.specs.Below.{fold}
 use Rattle.laws.specs.Answer.{ask, andThen, askEach, accepted, refused, answer}
-use Rattle.laws.proofs.Test.{true-or-false}
+use Rattle.laws.proofs.Test.{true-or-false, cond-true, cond-false}
 
 -- Where a row of questions comes to 0, the first is answered by yes, and the others come to 0.
 pub passed : (b : Bool) (k others : ℕ) → 0 < k → ask b k others ≡ 0 → (b ≡ true) × (others ≡ 0)
@@ -23,18 +23,18 @@ pub and-then-passed : (q others : ℕ) → andThen q others ≡ 0 → (q ≡ 0) 
 unfolding andThen
 and-then-passed q others e =
     elim (true-or-false (eqb q 0)) [
-      | inl z ↦ (eqb-true q 0 z, rw z at e)
-      | inr z ↦ absurd (eqb-false q 0 z (rw z at e))
+      | inl z ↦ (eqb-true q 0 z, sym (cond-true (eqb q 0) others q z) ∙ e)
+      | inr z ↦ absurd (eqb-false q 0 z (sym (cond-false (eqb q 0) others q z) ∙ e))
     ]
 
 pub and-then-passes : (q others : ℕ) → q ≡ 0 → others ≡ 0 → andThen q others ≡ 0
 unfolding andThen
-and-then-passes q others a b = rw (eq-eqb q 0 a) b
+and-then-passes q others a b = cond-true (eqb q 0) others q (eq-eqb q 0 a) ∙ b
 
 -- One row more, as a loop that asks them in turn comes to it.
 pub ask-each-step : (i : ℕ) (q : ℕ → ℕ) → askEach (i + 1) q ≡ andThen (askEach i q) (q i)
 unfolding askEach fold
-ask-each-step i q = rw add-one
+ask-each-step i q = ap (λ (n : ℕ). askEach n q) (add-one i)
 
 -- Where the rows q 0, .., q (n - 1) come to 0 one after the other, each does; and the other way.
 pub ask-each-passed : (n : ℕ) (q : ℕ → ℕ) → askEach n q ≡ 0 → (i : ℕ) → i < n → q i ≡ 0

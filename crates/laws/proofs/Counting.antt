@@ -55,6 +55,12 @@ count-mono (suc n) p q h =
     let b = count-mono n p q (λ j l. h j (omega arith)) in
     omega arith
 
+-- the lowest number, and the others one place down
+pub count-first : (n : ℕ) (p : ℕ → Bool) → count (suc n) p ≡ bit (p 0) + count n (λ j. p (suc j))
+unfolding count
+count-first zero p = omega arith
+count-first (suc n) p = let a = count-first n p in omega arith
+
 pub count-same : (n : ℕ) (p q : ℕ → Bool) → ((j : ℕ) → j < n → p j ≡ q j) → count n p ≡ count n q
 count-same n p q h =
     let a = count-mono n p q (λ j l e. sym (h j l) ∙ e) in

@@ -26,7 +26,7 @@ module _ {A : Type 0} where
   pub length-tabulate : (n : ℕ) (f : ℕ → A) → length (tabulate n f) ≡ n
   unfolding tabulate
   length-tabulate zero f = refl
-  length-tabulate (suc n) f = length-end (tabulate n f) (f n) ∙ ap suc (length-tabulate n f)
+  length-tabulate (suc n) f = length-end (tabulate n f) _ ∙ ap suc (length-tabulate n f)
 
   pub getD-tabulate : (n : ℕ) (f : ℕ → A) (i : ℕ) (d : A) → i < n → getD (tabulate n f) i d ≡ f i
   unfolding tabulate
@@ -36,6 +36,6 @@ module _ {A : Type 0} where
       elim (split n i) [
         | inl a ↦
             let e : i ≡ n = omega arith in
-            rw e (ap (λ (j : ℕ). getD (tabulate n f ++ (f n ∷ [])) j d) (sym k) ∙ getD-end (tabulate n f) (f n) d)
-        | inr a ↦ getD-before (tabulate n f) (f n) i d (omega arith) ∙ getD-tabulate n f i d a
+            rw e (ap (λ (j : ℕ). getD (tabulate (suc n) f) j d) (sym k) ∙ getD-end (tabulate n f) (f n) d)
+        | inr a ↦ getD-before (tabulate n f) _ i d (omega arith) ∙ getD-tabulate n f i d a
       ]

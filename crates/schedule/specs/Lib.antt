@@ -1,2 +1,3 @@
 pub mod Schedule
 pub mod Questions
+pub mod Facts

@@ -1,0 +1,14 @@
+-- The facts of a schedule, together. Assumes nothing.
+use Rattle.schedule.specs.Schedule.{Schedule, reachOf}
+use Rattle.schedule.specs.Facts.{ScheduleFacts}
+use Rattle.schedule.proofs.Accepted.{question-accepted, accepted-question}
+use Rattle.schedule.proofs.Crashes.{all-crashes}
+use Rattle.schedule.proofs.Reach.{ones-named}
+
+pub schedule-facts : (s : Schedule) → ScheduleFacts s
+schedule-facts s = record {
+  passes = question-accepted s;
+  passed-by = accepted-question s;
+  all-crashes = all-crashes s;
+  ones-named = λ i r. ones-named (s .n) (reachOf s i) (r .reach);
+}
