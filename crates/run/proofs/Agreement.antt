@@ -1,6 +1,7 @@
--- Agreement. Before the first decision two processes that complete a round differ only if a process crashed in each round so far: whoever
--- brought the 0 that the other missed crashed in this round, and differed from it the round before. So the first round with a decision has
--- estimates all alike or, in round t after many crashes, deciders who heard the same; and from then on they stay alike. Assumes nothing.
+-- Agreement. In the first round with a decision the estimates of all who complete it are alike, by the rule that decides: in a quiet round they
+-- were alike before, since few crashed; on zeros only the decider's own 0 reaches all; in round t + 1 two estimates would need t + 1 crashes.
+-- In round t after many crashes the deciders heard every process that was left, so they say the same, and one of them never crashes and tells
+-- all others. From then on estimates and decisions stay alike. Assumes nothing.
 use mathlib.Core.Path.{_≡_, ap}
 use mathlib.Core.Logic.{inl, inr, _≢_}
 use mathlib.Core.Bool.{true, not}
@@ -8,74 +9,21 @@ use Prim.Native.Nat.{ℕ, zero, suc, _+_, _≤_, _<_}
 use native.Mathlib.Nat.{eq-zero-or-pos}
 use native.Mathlib.Omega.{arith}
 use lib.Dec.{leb}
-use borrow.Author.Tests.{leb-true, leb-false, lt-leb, le-leb}
-use Rattle.laws.proofs.Counting.{split, find, count-mono, count-strict, count-not, count-pos}
+use borrow.Author.Tests.{leb-true, leb-false, lt-leb}
+use Rattle.laws.proofs.Counting.{split, find, count-mono, count-strict, count-not}
 use Rattle.run.proofs.OneRound.{isEstimate, by-zeros, by-quiet, by-count, by-last, decides, waits, estimatesIn}
-use Rattle.run.proofs.World.{World, RoundLaws, DecisionRules, Plays, Lowered, Told, crashes, NobodyDecided, Uniform, AllDecide, crashes-mono, crashes-more}
+use Rattle.run.proofs.World.{World, RoundLaws, DecisionRules, Plays, Told, crashes, NobodyDecided, Uniform, AllDecide, crashes-mono, crashes-more}
 use Rattle.run.proofs.Codes.{estimate-heard}
 use Rattle.run.proofs.States.{bits, teller, range, stays, undecided, between, hears-of, heard-by-all, heard-from, nobody-told, plays-on, uniform-step, settled}
 use Rattle.run.proofs.EarlyDecision.{crashes-so-far}
-use Rattle.run.proofs.Votes.{none-in-1, first-estimate}
+use Rattle.run.proofs.Votes.{none-in-1}
+use Rattle.run.proofs.Apart.{unless-told, uniform-of}
 
 module _ (w : World) where
   open World w using (n, t, start, crash, estimate, decided, code)
 
   module _ (laws : RoundLaws w) (rules : DecisionRules w) where
-    flood : (r i : ℕ) → 0 < r → r ≤ t → i < n → suc r < crash i → NobodyDecided w r → Lowered w r i
-    flood r i p rt l a nb = let s1 = rules .start-1 in laws .lowers r i (plays-on w laws r i rt l a nb) (omega arith) (nobody-told w laws r i rt l nb)
-
-    pub apart-needs-crashes : (r i k : ℕ) → r ≤ t → i < n → k < n → suc r < crash i → suc r < crash k → NobodyDecided w r → estimate (suc r) i ≡ 1 → estimate (suc r) k ≡ 0 → suc r ≤ crashes w (suc r)
-    apart-needs-crashes zero i k rt il kl ia ka nb ei ek =
-        elim (first-estimate w laws rules i il ia) [
-          | inl p ↦ absurd (omega arith)
-          | inr p ↦
-              elim (first-estimate w laws rules k kl ka) [
-                | inr q ↦ absurd (omega arith)
-                | inl q ↦
-                    let j = q .1 .0 in
-                    let jl : j < n = q .1 .1 in
-                    let no2 : code 0 k j ≢ 2 = q .1 .2 in
-                    let two = p .1 j jl in
-                    elim (split (crash j) 1) [
-                      | inl a ↦ count-pos n (λ j. leb (crash j) 1) j jl (le-leb (crash j) 1 a)
-                      | inr a ↦ let x = heard-by-all w laws 0 k j rt kl jl nb a in let y = heard-by-all w laws 0 i j rt il jl nb a in absurd (omega arith)
-                    ]
-              ]
-        ]
-    apart-needs-crashes (suc r) i k rt il kl ia ka nb ei ek = go (λ x. apart-needs-crashes r i x) (flood (suc r) i (omega arith) rt il ia nb) (flood (suc r) k (omega arith) rt kl ka nb)
-      where
-        go : ((x : ℕ) → r ≤ t → i < n → x < n → suc r < crash i → suc r < crash x → NobodyDecided w r → estimate (suc r) i ≡ 1 → estimate (suc r) x ≡ 0 → suc r ≤ crashes w (suc r))
-            → Lowered w (suc r) i → Lowered w (suc r) k → suc (suc r) ≤ crashes w (suc (suc r))
-        go ih (inl p) q = absurd (omega arith)
-        go ih (inr p) (inr q) = absurd (let x = heard-by-all w laws (suc r) i k rt il kl nb ka in let y : code (suc r) i k ≢ 1 = p .1 k kl in omega arith)
-        go ih (inr p) (inl q) =
-            let x = q .1 .0 in
-            let xl : x < n = q .1 .1 in
-            let e1 = q .1 .2 in
-            let h = heard-from w laws (suc r) k x rt kl xl nb (omega arith) in
-            let prev : NobodyDecided w r = λ j jl. undecided w laws r (suc r) j (omega arith) (omega arith) jl (nb j jl) in
-            let m = ih x (omega arith) il xl (omega arith) (h .0) prev (omega arith) (omega arith) in
-            let y : code (suc r) i x ≢ 1 = p .1 x xl in
-            elim (split (crash x) (suc (suc r))) [
-              | inl a ↦ let s = crashes-more w (suc r) (suc (suc r)) x (omega arith) xl (h .0) a in omega arith
-              | inr a ↦ absurd (let v = heard-by-all w laws (suc r) i x rt il xl nb a in let z = h .1 in omega arith)
-            ]
-
-    -- few crashes make a round uniform
-    uniform-of : (r i : ℕ) → r ≤ t → NobodyDecided w r → crashes w (suc r) < suc r → i < n → suc r < crash i → Uniform w (suc r) (estimate (suc r) i)
-    uniform-of r i rt nb few il ia k kl ka =
-        let bi = bits w laws (suc r) (omega arith) i il in
-        let bk = bits w laws (suc r) (omega arith) k kl in
-        elim (split (estimate (suc r) k) (estimate (suc r) i)) [
-          | inl a ↦
-              elim (split (estimate (suc r) i) (estimate (suc r) k)) [
-                | inl b ↦ omega arith
-                | inr b ↦ absurd (let h = apart-needs-crashes r i k rt il kl ia ka nb (omega arith) (omega arith) in omega arith)
-              ]
-          | inr a ↦ absurd (let h = apart-needs-crashes r k i rt kl il ka ia nb (omega arith) (omega arith) in omega arith)
-        ]
-
-    -- an hears-estimate that is heard comes from one who has not crashed
+    -- an estimate that is heard comes from one who has not crashed
     heard-alive : (r i : ℕ) → r ≤ t → i < n → NobodyDecided w r → (j : ℕ) → j < n → isEstimate (code r i j) ≡ true → not (leb (crash j) r) ≡ true
     heard-alive r i rt l nb j jl e = ap not (lt-leb (crash j) r (heard-from w laws r i j rt l jl nb (estimate-heard (code r i j) e) .0))
 
@@ -97,7 +45,7 @@ module _ (w : World) where
               absurd (omega arith)
         ]
 
-    -- round t = r + 1, after r crashes or more, nobody having hears-decision
+    -- round t = r + 1, after r crashes or more, nobody having decided
     module _ (r : ℕ) (pos : 0 < r) (rt : suc r ≡ t) (nb : NobodyDecided w r) (many : r ≤ crashes w r) where
       -- i decides in round t
       record Decider (i : ℕ) : Type 0 where
@@ -133,10 +81,10 @@ module _ (w : World) where
       not-apart i k di dk zi ok =
           let il = di .process in
           let kl = dk .process in
-          elim (flood r k pos (omega arith) kl (dk .alive) nb) [
+          elim (unless-told w laws rules r k pos (omega arith) kl (dk .alive) nb) [
             | inl q ↦ omega arith
             | inr q ↦
-                elim (flood r i pos (omega arith) il (di .alive) nb) [
+                elim (unless-told w laws rules r i pos (omega arith) il (di .alive) nb) [
                   | inl p ↦
                       let x = p .1 .0 in
                       let xl : x < n = p .1 .1 in
@@ -208,7 +156,7 @@ module _ (w : World) where
     few-first (suc q) i rt nb h l a =
         let s1 = rules .start-1 in
         let before : NobodyDecided w q = λ j jl. undecided w laws q (suc q) j (omega arith) (omega arith) jl (nb j jl) in
-        let u = uniform-of q i (omega arith) before h l (omega arith) in
+        let u = uniform-of w laws rules q i (omega arith) before h l (omega arith) in
         let v = uniform-step w laws (suc q) (estimate (suc q) i) (omega arith) rt u in
         (estimate (suc q) i, λ k kl kp. settled w laws (suc q) (estimate (suc q) i) k (omega arith) rt v kl (nb k kl) kp)
 
@@ -229,7 +177,7 @@ module _ (w : World) where
                           let not2 : code r i i ≢ 2 = no2 i l in
                           let b = bits w laws r (omega arith) i l in
                           uniform-first r 0 rt nb (λ k kl ka.
-                          elim (flood r k p rt kl ka nb) [
+                          elim (unless-told w laws rules r k p rt kl ka nb) [
                             | inl q ↦ q .0
                             | inr q ↦ absurd (let x = heard-by-all w laws r k i rt kl l nb a in let z : code r k i ≢ 1 = q .1 i l in omega arith)
                           ])
@@ -239,7 +187,7 @@ module _ (w : World) where
                             | inl x ↦ (estimate (suc r) i, round-t r p b nb x i (record { process = l; alive = a; made = e }))
                             | inr x ↦ few-first r i rt nb x l a
                           ]
-                      | by-last b ↦ uniform-first r (estimate (suc r) i) rt nb (uniform-of r i rt nb (let f = laws .few in let m = crashes-mono w (suc r) (suc t) (omega arith) in omega arith) l a)
+                      | by-last b ↦ uniform-first r (estimate (suc r) i) rt nb (uniform-of w laws rules r i rt nb (let f = laws .few in let m = crashes-mono w (suc r) (suc t) (omega arith) in omega arith) l a)
                     ]
               ]
         ]

@@ -1,7 +1,7 @@
 -- Early decision. Whoever completes a round undecided was told nothing, so it has too few estimates for the round's rule; and whoever it has no
 -- estimate from has crashed. So a round that ends undecided has seen about as many crashes as rounds, and round B cannot. Assumes nothing.
 use mathlib.Core.Path.{_≡_}
-use mathlib.Core.Logic.{_⊎_, inl, inr}
+use mathlib.Core.Logic.{inl, inr}
 use mathlib.Core.Bool.{not}
 use Prim.Native.Nat.{ℕ, zero, suc, _+_, _≤_, _<_}
 use native.Mathlib.Nat.{eq-zero-or-pos}

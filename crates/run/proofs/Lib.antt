@@ -4,6 +4,7 @@ pub mod Codes
 pub mod States
 pub mod EarlyDecision
 pub mod Votes
+pub mod Apart
 pub mod Agreement
 pub mod Messages
 pub mod Rows

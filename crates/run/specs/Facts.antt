@@ -41,7 +41,8 @@ module _ (P : Protocol) (s : Schedule) where
   pub record WhoMoves (r i : ℕ) : Type 0 where
     pub opens : after P s 0 i ≡ P .opening (s .n) (s .t) (i + 1) (voteOf s i)
     -- a process that completes the round and is not stopped hears the row of the states at the round's start
-    pub hears : Completes s (suc r) i → P .stopped (after P s r i) ≡ false → after P s (suc r) i ≡ P .hears (after P s r i) (rowOf P s (suc r) (statesAfter P s r) i)
+    pub hears : Completes s (suc r) i → P .stopped (after P s r i) ≡ false
+        → after P s (suc r) i ≡ P .hears (after P s r i) (rowOf P s (suc r) (statesAfter P s r) i)
     -- one that crashes in the round or crashed before keeps its state, and so does one that is stopped
     pub crashed : 1 ≤ crashOf s i → crashOf s i ≤ suc r → after P s (suc r) i ≡ after P s r i
     pub rests : P .stopped (after P s r i) ≡ true → after P s (suc r) i ≡ after P s r i
