@@ -1,0 +1,119 @@
+-- The marked schedules (document 01, "Marked schedules"), and the table of them with their results.
+-- A contract cannot name a constant of the code, so the schedules A to K stand here too. Their results do not: those of the constant are
+-- proved to be what the definitions give.
+use Prim.Native.Nat.{ℕ}
+use mathlib.Core.Path.{_≡_}
+use mathlib.Core.List.{List, [], _∷_, map}
+use mathlib.Core.Bool.{true}
+use lib.ListN.{length, getD}
+use lib.Dec.{ltb}
+use Rattle.member.specs.Opening.{largest}
+use Rattle.schedule.specs.Schedule.{Schedule}
+use Rattle.schedule.specs.Questions.{question}
+use Rattle.run.specs.Protocol.{fcwfa}
+use Rattle.run.specs.Report.{Report, report}
+use Rattle.marked.specs.declared.Case.{Case}
+use Rattle.marked.specs.declared.CaseEntry.{CaseEntry}
+
+-- a table with a number for each of four processes
+abbrev pub four : ℕ → ℕ → ℕ → ℕ → List ℕ
+four a b c d = a ∷ b ∷ c ∷ d ∷ []
+
+-- "all votes 1"
+abbrev pub allOne : List ℕ
+allOne = four 1 1 1 1
+
+-- no crash rounds, and no reaches
+abbrev pub allZero : List ℕ
+allZero = four 0 0 0 0
+
+-- "n = 4, t = 3": with these votes, crash rounds and reaches
+abbrev pub marked : List ℕ → List ℕ → List ℕ → Schedule
+marked votes crashes reaches = record { n = 4; t = 3; votes = votes; crashes = crashes; reaches = reaches }
+
+abbrev pub schedules : List Schedule
+schedules =
+    -- "A no crash"
+    marked allOne allZero allZero ∷
+    -- "B process 1 votes 0"
+    marked (four 0 1 1 1) allZero allZero ∷
+    -- "C 1: 1/0000"
+    marked allOne (four 1 0 0 0) allZero ∷
+    -- "D above": 1: 1/0100
+    marked allOne (four 1 0 0 0) (four 2 0 0 0) ∷
+    -- "E 1: 1/0110; 4: 2/0100; 2: 3/0000"
+    marked allOne (four 1 3 0 2) (four 6 0 0 2) ∷
+    -- "F as E, but 2: 3/0010"
+    marked allOne (four 1 3 0 2) (four 6 4 0 2) ∷
+    -- "G as E, 2 not crashing"
+    marked allOne (four 1 0 0 2) (four 6 0 0 2) ∷
+    -- "H 1: 3/0000"
+    marked allOne (four 3 0 0 0) allZero ∷
+    -- "I 1: 2/0111"
+    marked allOne (four 2 0 0 0) (four 14 0 0 0) ∷
+    -- "J 1: 4/0000"
+    marked allOne (four 4 0 0 0) allZero ∷
+    -- "K 1, 2, 3: 1/0000"
+    marked allOne (four 1 1 1 0) allZero ∷
+    []
+
+-- "constant table of tables: votes, crash rounds, reaches and expected results": the entry of a schedule, with what the definitions give for it
+abbrev pub caseOf : Schedule → Case
+caseOf s = record {
+  votes = s .votes;
+  crashes = s .crashes;
+  reaches = s .reaches;
+  decisions = report fcwfa s .decisions;
+  rounds = report fcwfa s .rounds;
+  f = report fcwfa s .f;
+  first = report fcwfa s .first;
+  last = report fcwfa s .last;
+  messages = report fcwfa s .messages;
+}
+
+abbrev pub cases : List Case
+cases = map caseOf schedules
+
+-- the schedule that an entry holds, and the results that it expects
+abbrev pub scheduleOf : Case → Schedule
+scheduleOf c = marked (c .votes) (c .crashes) (c .reaches)
+
+abbrev pub expected : Case → Report
+expected c = record {
+  f = c .f;
+  first = c .first;
+  last = c .last;
+  messages = c .messages;
+  decisions = c .decisions;
+  rounds = c .rounds;
+}
+
+-- "their results are proved together from the definitions, by a statement that covers the table": the entries of the table are the
+-- schedules A to K with the results that the definitions give, and all are accepted
+pub record MarkedTable (table : List Case) : Type 0 where
+  pub entries : table ≡ cases
+  pub accepted : map (λ c. question (scheduleOf c) largest true) table ≡ map (λ c. 0) table
+
+-- what stands where there is no case
+abbrev pub noCase : Case
+noCase = record {
+  votes = allZero;
+  crashes = allZero;
+  reaches = allZero;
+  decisions = allZero;
+  rounds = allZero;
+  f = 0;
+  first = 0;
+  last = 0;
+  messages = 0;
+}
+
+-- entry k: found where the table has one
+abbrev pub caseEntry : ℕ → CaseEntry
+caseEntry k = record { found = ltb k (length cases); case = getD cases k noCase }
+
+-- what `case_at` hands out for k
+pub record CaseAt (k : ℕ) (r : CaseEntry) : Type 0 where
+  pub entry : r ≡ caseEntry k
+  pub accepted : r .found ≡ true → question (scheduleOf (r .case)) largest true ≡ 0
+  pub results : r .found ≡ true → report fcwfa (scheduleOf (r .case)) ≡ expected (r .case)
