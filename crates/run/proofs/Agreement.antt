@@ -129,7 +129,7 @@ module _ (w : World) where
           ] in
           let before = nb k kl in
           let o : Plays w r k = record { time = omega arith; process = kl; alive = omega arith; undecided = before } in
-          let k8 = crashes-so-far w laws rules r k o pos z .2 rt in
+          let k8 = crashes-so-far w laws rules r k o pos z .round-t rt in
           let ic : suc t < crash i =
           elim (split (crash i) (suc t)) [
             | inr a ↦ a

@@ -128,7 +128,7 @@ module _ (s : Schedule) (ok : Rules s) where
       let o : Plays (runWorld s) r i = record { time = omega arith; process = l; alive = a; undecided = before } in
       let e = crashes-are s (suc r) (omega arith) in
       let k = crashes-so-far (runWorld s) (laws s ok) (rules s ok) r i o (omega arith) (h .undecided) in
-      ((λ b. let y = k .1 b in omega arith), (λ b. let y = k .2 b in omega arith))
+      ((λ b. let y = k .early b in omega arith), (λ b. let y = k .round-t b in omega arith))
 
   pub by-crashes-so-far : CrashesSoFar s
   by-crashes-so-far = record {

@@ -9,8 +9,8 @@ use native.Mathlib.Omega.{arith}
 use lib.Dec.{leb}
 use borrow.Author.Tests.{le-leb, not-true}
 use Rattle.laws.proofs.Counting.{split, count-mono, count-not}
-use Rattle.run.proofs.OneRound.{isEstimate, decides, waits}
-use Rattle.run.proofs.World.{World, RoundLaws, DecisionRules, Plays, crashes, crashes-mono}
+use Rattle.run.proofs.OneRound.{isEstimate, estimatesIn, decides, waits}
+use Rattle.run.proofs.World.{World, RoundLaws, DecisionRules, Plays, NotTold, crashes, crashes-mono}
 use Rattle.run.proofs.Codes.{not-estimate}
 use Rattle.run.proofs.States.{Way, way, stays-put, told, not-told, undecided, missing}
 
@@ -25,21 +25,38 @@ module _ (w : World) where
     pub before-t : B < t → crashes w (suc t) + 2 ≤ B
     pub at-t : B ≡ t → crashes w (suc t) < t
 
+  -- what the crashes by round r + 1 are where some process completes it undecided
+  pub record EndsUndecided (r : ℕ) : Type 0 where
+    pub not-last : r < t
+    pub early : suc r < t → r ≤ crashes w (suc r)
+    pub round-t : suc r ≡ t → t ≤ crashes w (suc r)
+
   module _ (laws : RoundLaws w) (rules : DecisionRules w) where
-    pub crashes-so-far : (r i : ℕ) → Plays w r i → 0 < r → decided (suc r) i ≡ 0 → (r < t) × (suc r < t → r ≤ crashes w (suc r)) × (suc r ≡ t → t ≤ crashes w (suc r))
+    -- whoever sends no estimate to an undecided process that is not told has crashed
+    missing-crashed : (r i : ℕ) → Plays w r i → NotTold w r i → n ≤ estimatesIn n (code r i) + crashes w (suc r)
+    missing-crashed r i o low =
+        let all = count-not n (λ j. isEstimate (code r i j)) in
+        let sub = count-mono n (λ j. not (isEstimate (code r i j))) (λ j. leb (crash j) (suc r)) (λ j jl e.
+        le-leb (crash j) (suc r) (missing w laws r i j o jl (not-estimate (code r i j) (low j jl) (not-true (isEstimate (code r i j)) e)))) in
+        omega arith
+
+    pub crashes-so-far : (r i : ℕ) → Plays w r i → 0 < r → decided (suc r) i ≡ 0 → EndsUndecided r
     crashes-so-far r i o p u = go (way w laws r i (o .time) (o .process))
       where
-        go : Way w laws r i → (r < t) × (suc r < t → r ≤ crashes w (suc r)) × (suc r ≡ t → t ≤ crashes w (suc r))
+        go : Way w laws r i → EndsUndecided r
         go (stays-put (inl a) k) = absurd (let b = o .alive in omega arith)
         go (stays-put (inr a) k) = absurd (let h = k .decided-is in omega arith)
         go (told _ _ h) = absurd (let e = h .decided-is in omega arith)
         go (not-told _ low) =
-            let all = count-not n (λ j. isEstimate (code r i j)) in
-            let sub = count-mono n (λ j. not (isEstimate (code r i j))) (λ j. leb (crash j) (suc r))
-            (λ j jl e. le-leb (crash j) (suc r) (missing w laws r i j o jl (not-estimate (code r i j) (low j jl) (not-true (isEstimate (code r i j)) e)))) in
+            let crashed = missing-crashed r i o low in
             elim (rules .ends r i o p low) [
               | decides e _ ↦ absurd (omega arith)
-              | waits _ h ↦ (h .not-last, (λ b. let x = h .not-quiet b in omega arith), (λ b. let x = h .not-count b in omega arith))
+              | waits _ h ↦
+                  record {
+                    not-last = h .not-last;
+                    early = λ b. let x = h .not-quiet b in omega arith;
+                    round-t = λ b. let x = h .not-count b in omega arith;
+                  }
             ]
 
     pub by-round-b : (B i : ℕ) → LateEnough B → i < n → B < crash i → 0 < decided B i
@@ -54,9 +71,9 @@ module _ (w : World) where
               let o : Plays w r i = record { time = omega arith; process = l; alive = a; undecided = before } in
               let k = crashes-so-far r i o (omega arith) u in
               let more = crashes-mono w (suc r) (suc t) (omega arith) in
-              let rt = k .0 in
+              let rt = k .not-last in
               absurd (elim (split t (suc r)) [
-                | inl b ↦ let y = k .2 (omega arith) in let z = h .at-t (omega arith) in omega arith
-                | inr b ↦ let y = k .1 b in let z = h .before-t b in omega arith
+                | inl b ↦ let y = k .round-t (omega arith) in let z = h .at-t (omega arith) in omega arith
+                | inr b ↦ let y = k .early b in let z = h .before-t b in omega arith
               ])
         ]

@@ -16,6 +16,7 @@ module _ (w : World) where
   open World w using (n, t, start, crash, estimate, decided, code)
 
   module _ (laws : RoundLaws w) (rules : DecisionRules w) where
+    -- nobody decides in round 1
     pub none-in-1 : (i : ℕ) → i < n → decided 1 i ≡ 0
     none-in-1 i l =
         let z = laws .opens-undecided i l in
@@ -38,6 +39,7 @@ module _ (w : World) where
               inr (omega arith, p .1)
         ]
 
+    -- a vote of 0, by k: every estimate after round 1 is 0, round 2 decides, and every decision is 0
     abort-1 : (k : ℕ) → k < n → estimate 0 k ≡ 0 → Uniform w 1 0
     abort-1 k kl z i l a =
         elim (first-estimate i l a) [
@@ -68,6 +70,7 @@ module _ (w : World) where
         let s1 = rules .start-1 in
         settled w laws 0 0 i (omega arith) (omega arith) (abort-1 k kl z) l (laws .opens-undecided i l) p
 
+    -- votes of 1 alone and no crash: every estimate after round 1 is 1, and round 2 is quiet
     module _ (ones : (j : ℕ) → j < n → estimate 0 j ≡ 1) (safe : crashes w (suc t) ≡ 0) where
       alive : (j : ℕ) → j < n → suc t < crash j
       alive j l = leb-false (crash j) (suc t) (count-zero n (λ j. leb (crash j) (suc t)) safe j l)
