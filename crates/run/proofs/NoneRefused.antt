@@ -4,7 +4,7 @@
 use mathlib.Core.Path.{_≡_, refl, sym, ap, _∙_}
 use mathlib.Core.Logic.{_⊎_, inl, inr}
 use mathlib.Core.List.{List}
-use mathlib.Core.Bool.{Bool, true, false, _&&_}
+use mathlib.Core.Bool.{true, false}
 use Prim.Native.Nat.{ℕ, zero, suc, _+_, _-_, _≤_, _<_}
 use native.Mathlib.Omega.{arith}
 use lib.Dec.{leb}
@@ -12,7 +12,7 @@ use lib.ListN.{length, getD}
 use borrow.Author.Tests.{eq-eqb, lt-leb}
 use Rattle.laws.specs.Answer.{ask}
 use Rattle.laws.specs.Below.{tabulate}
-use Rattle.laws.proofs.Test.{true-or-false}
+use Rattle.laws.proofs.Test.{true-or-false, and-no-left, and-no-right}
 use Rattle.laws.proofs.Counting.{split}
 use Rattle.laws.proofs.Lists.{length-tabulate, getD-tabulate}
 use Rattle.member.specs.declared.Member.{Member}
@@ -94,15 +94,11 @@ module _ (s : Schedule) (ok : Rules s) where
   unfolding toldEarly
   never-early r i round rt il e =
       elim (split 2 r) [
-        | inl a ↦ rw (lt-leb round 2 (omega arith)) refl
+        | inl a ↦ and-no-left (leb round 2) _ (lt-leb round 2 (omega arith))
         | inr a ↦
             let low = nobody-told (runWorld s) (laws s ok) r i rt il (nobody-early r a) in
-            rw (not-told (s .n) (c r i) (tallyOf (tabulate (s .n) (c r i))) (counts-of (s .n) (c r i)) low) (and-no (leb round 2))
+            and-no-right (leb round 2) _ (not-told (s .n) (c r i) (tallyOf (tabulate (s .n) (c r i))) (counts-of (s .n) (c r i)) low)
       ]
-    where
-      and-no : (b : Bool) → b && false ≡ false
-      and-no true = refl
-      and-no false = refl
 
   module _ (limit : ℕ) (high : s .n ≤ limit) where
     -- a member of the run, crashed or not

@@ -8,7 +8,7 @@ use lib.Dec.{ltb, eqb}
 use lib.ListN.{getD}
 use borrow.Author.Tests.{eqb-true, eqb-false, eq-eqb, ne-eqb, ltb-true, ltb-false, lt-ltb, le-ltb}
 use Rattle.laws.specs.Below.{count, tabulate}
-use Rattle.laws.proofs.Test.{true-or-false, and-left, and-right, or-true, or-false}
+use Rattle.laws.proofs.Test.{true-or-false, and-left, and-right, or-left, or-right, or-neither, or-true, or-false}
 use Rattle.laws.proofs.Counting.{Some, split, count-same, count-either, count-pos, count-some, count-zero, count-of-none, count-full, count-short}
 use Rattle.laws.proofs.Lists.{length-tabulate, getD-tabulate}
 use Rattle.member.specs.declared.Tally.{Tally}
@@ -78,16 +78,12 @@ module _ (n : ℕ) (c : ℕ → ℕ) (k : Tally) (counted : Counts n c k) where
         | inl a ↦
             let p = count-pos n (λ j. eqb (c j) 3) j jl (eq-eqb (c j) 3 (omega arith)) in
             let q = counted .aborts-are in
-            rw (lt-ltb 0 (k .aborts) (omega arith)) refl
+            or-left (ltb 0 (k .aborts)) (ltb 0 (k .commits)) (lt-ltb 0 (k .aborts) (omega arith))
         | inr a ↦
             let p = count-pos n (λ j. eqb (c j) 4) j jl (eq-eqb (c j) 4 (omega arith)) in
             let q = counted .commits-are in
-            rw (lt-ltb 0 (k .commits) (omega arith)) (or-any (ltb 0 (k .aborts)))
+            or-right (ltb 0 (k .aborts)) (ltb 0 (k .commits)) (lt-ltb 0 (k .commits) (omega arith))
       ]
-    where
-      or-any : (b : Bool) → b || true ≡ true
-      or-any true = refl
-      or-any false = refl
 
   pub not-told : NoneDecided n c → told k ≡ false
   unfolding told
@@ -96,7 +92,7 @@ module _ (n : ℕ) (c : ℕ → ℕ) (k : Tally) (counted : Counts n c k) where
       let b = count-of-none n (λ j. eqb (c j) 4) (λ j jl. ne-eqb (c j) 4 (λ e. let l = h j jl in omega arith)) in
       let ak = counted .aborts-are in
       let bk = counted .commits-are in
-      rw (le-ltb 0 (k .aborts) (omega arith), le-ltb 0 (k .commits) (omega arith)) refl
+      or-neither (ltb 0 (k .aborts)) (ltb 0 (k .commits)) (le-ltb 0 (k .aborts) (omega arith)) (le-ltb 0 (k .commits) (omega arith))
 
   -- decided messages of both values
   pub told-both : toldBoth k ≡ true → (Some n λ j. c j ≡ 3) × (Some n λ j. c j ≡ 4)
