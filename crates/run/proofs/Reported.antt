@@ -1,4 +1,4 @@
--- The reported tables hold what each process decides and in which round, and 2 and 0 for none. Assumes nothing.
+-- The reported f counts the crashes, and the reported tables hold what each process decides and in which round, and 2 and 0 for none. Assumes nothing.
 use mathlib.Core.Path.{_≡_, sym, ap, _∙_}
 use mathlib.Core.Logic.{_≢_}
 use Prim.Native.Nat.{ℕ, suc, _≤_, _<_}
@@ -10,10 +10,11 @@ use Rattle.laws.proofs.Test.{cond-true, cond-false}
 use Rattle.laws.proofs.Lists.{length-tabulate, getD-tabulate}
 use Rattle.schedule.specs.Schedule.{Schedule}
 use Rattle.schedule.specs.Questions.{Rules}
+use Rattle.schedule.proofs.Crashes.{all-crashes}
 use Rattle.run.specs.Protocol.{fcwfa}
 use Rattle.run.specs.Run.{stateAt, final}
 use Rattle.run.specs.Report.{roundOf, decisionOf, report}
-use Rattle.run.specs.Facts.{ReportedDecisions}
+use Rattle.run.specs.Facts.{Reported}
 use Rattle.run.proofs.States.{bits}
 use Rattle.run.proofs.FcwfaRun.{runWorld, laws}
 use Rattle.run.proofs.Demand.{end-is}
@@ -42,8 +43,9 @@ module _ (s : Schedule) (ok : Rules s) where
       let e = ap (λ m. m .estimate) (end-is s ok i) in
       omega arith
 
-  pub reported-decisions : ReportedDecisions s
-  reported-decisions = record {
+  pub reported : Reported s
+  reported = record {
+    crashes = sym (all-crashes s ok);
     decisions-long = length-tabulate (s .n) (decisionOf fcwfa (final fcwfa s));
     rounds-long = length-tabulate (s .n) ended;
     decided = λ i v r d.

@@ -8,7 +8,7 @@ use Rattle.schedule.proofs.Accepted.{question-accepted}
 use Rattle.run.specs.Facts.{RunPromises}
 use Rattle.run.proofs.Demand.{demand-3, by-crashes-so-far}
 use Rattle.run.proofs.Deciders.{deciders}
-use Rattle.run.proofs.Reported.{reported-decisions}
+use Rattle.run.proofs.Reported.{reported}
 use Rattle.run.proofs.NoneRefused.{none-refused}
 
 pub accepted-run : (s : Schedule) (limit : ℕ) (answers : Bool) → question s limit answers ≡ 0 → RunPromises limit s
@@ -17,7 +17,7 @@ accepted-run s limit answers e =
     record {
       demand-3 = demand-3 s (a .rules);
       crashes-so-far = by-crashes-so-far s (a .rules);
-      reported-decisions = reported-decisions s (a .rules);
+      reported = reported s (a .rules);
       deciders = deciders s (a .rules);
       none-refused = none-refused s (a .rules) limit (a .n-high);
     }

@@ -52,9 +52,10 @@ pub record CrashesSoFar (s : Schedule) : Type 0 where
   pub early : (r i : ℕ) → 2 ≤ r → r ≤ s .t - 1 → CompletesUndecided fcwfa s r i → r - 1 ≤ crashedBy s r
   pub round-t : (i : ℕ) → CompletesUndecided fcwfa s (s .t) i → s .t ≤ crashedBy s (s .t)
 
--- The reported decisions and rounds are those that the processes decide, and 2 and 0 for one that does not. So whatever demand 3 says of
--- deciding holds of the report's two tables.
-pub record ReportedDecisions (s : Schedule) : Type 0 where
+-- The reported f is the number of processes with crash rounds from 1 to t + 1. The reported decisions and rounds are those that the processes
+-- decide, and 2 and 0 for one that does not; so whatever demand 3 says of deciding holds of the report's two tables.
+pub record Reported (s : Schedule) : Type 0 where
+  pub crashes : report fcwfa s .f ≡ crashedBy s (s .t + 1)
   pub decisions-long : length (report fcwfa s .decisions) ≡ s .n
   pub rounds-long : length (report fcwfa s .rounds) ≡ s .n
   pub decided : (i v r : ℕ) → Decides fcwfa s i v r → (getD (report fcwfa s .decisions) i 2 ≡ v) × (getD (report fcwfa s .rounds) i 0 ≡ r) × (v ≤ 1)
@@ -96,6 +97,6 @@ pub record NoneRefused (limit : ℕ) (s : Schedule) : Type 0 where
 pub record RunPromises (limit : ℕ) (s : Schedule) : Type 0 where
   pub demand-3 : Demand3 s
   pub crashes-so-far : CrashesSoFar s
-  pub reported-decisions : ReportedDecisions s
+  pub reported : Reported s
   pub deciders : Deciders s
   pub none-refused : NoneRefused limit s
