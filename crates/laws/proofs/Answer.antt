@@ -5,12 +5,13 @@ use mathlib.Core.Bool.{Bool, true, false}
 use Prim.Native.Nat.{ℕ, zero, suc, _+_, _<_}
 use native.Mathlib.Numerals.{add-one}
 use native.Mathlib.Omega.{arith}
-use borrow.Author.Count.{below-none, below-more}
+use borrow.Author.Count.{below-none}
 use borrow.Author.Tests.{eqb-true, eqb-false, eq-eqb, ne-eqb}
 use lib.Dec.{eqb}
 use Rattle.laws.specs.Below.{fold}
 use Rattle.laws.specs.Answer.{ask, andThen, askEach, accepted, refused, answer}
 use Rattle.laws.proofs.Test.{true-or-false, cond-true, cond-false}
+use Rattle.laws.proofs.Counting.{below-or-top}
 
 -- Where a row of questions comes to 0, the first is answered by yes, and the others come to 0.
 pub passed : (b : Bool) (k others : ℕ) → 0 < k → ask b k others ≡ 0 → (b ≡ true) × (others ≡ 0)
@@ -42,7 +43,7 @@ unfolding askEach fold
 ask-each-passed zero q e = below-none (λ i. q i ≡ 0)
 ask-each-passed (suc n) q e =
     let p = and-then-passed (askEach n q) (q n) e in
-    rw (← add-one n) (below-more (λ i. q i ≡ 0) n (ask-each-passed n q (p .0)) (p .1))
+    below-or-top (λ i. q i ≡ 0) n (ask-each-passed n q (p .0)) (p .1)
 
 pub ask-each-passes : (n : ℕ) (q : ℕ → ℕ) → ((i : ℕ) → i < n → q i ≡ 0) → askEach n q ≡ 0
 unfolding askEach fold

@@ -5,8 +5,10 @@ use mathlib.Core.Logic.{_⊎_, inl, inr}
 use mathlib.Core.Bool.{Bool, true, false, not, _||_, true≢false}
 use Prim.Native.Nat.{ℕ, zero, suc, _+_, _≤_, _<_, zero-le}
 use native.Mathlib.Nat.{not-suc-le-zero}
+use native.Mathlib.Numerals.{add-one}
 use native.Mathlib.Omega.{arith}
 use lib.Dec.{leb}
+use borrow.Author.Count.{below-more}
 use borrow.Author.Tests.{leb-true, leb-false, not-true, not-false}
 use Rattle.laws.specs.Below.{bit, count}
 use Rattle.laws.proofs.Test.{true-or-false}
@@ -20,11 +22,7 @@ split a b = elim (true-or-false (leb a b)) [ inl e ↦ inl (leb-true a b e) | in
 
 -- a number below n + 1 is one below n, or n
 pub below-or-top : (P : ℕ → Type 0) (n : ℕ) → ((j : ℕ) → j < n → P j) → P n → (j : ℕ) → j < suc n → P j
-below-or-top P n all top j l =
-    elim (split n j) [
-      | inl a ↦ let e : j ≡ n = omega arith in rw e top
-      | inr a ↦ all j a
-    ]
+below-or-top P n all top = rw (← add-one n) (below-more P n all top)
 
 pub find : (n : ℕ) (p : ℕ → Bool) → (Some n λ j. p j ≡ true) ⊎ ((j : ℕ) → j < n → p j ≡ false)
 find zero p = inr (λ j l. absurd (not-suc-le-zero l))

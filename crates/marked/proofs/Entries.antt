@@ -6,6 +6,7 @@ use Prim.Native.Nat.{ℕ, _≤_, _<_}
 use native.Mathlib.Omega.{arith}
 use borrow.Author.Tests.{lt-ltb, le-ltb}
 use lib.ListN.{length, getD, List·getD-eq-default}
+use Rattle.laws.proofs.Lists.{read-same, agree-at}
 use Rattle.member.specs.Opening.{largest}
 use Rattle.schedule.specs.Questions.{question}
 use Rattle.run.specs.Protocol.{fcwfa}
@@ -14,7 +15,6 @@ use Rattle.marked.specs.declared.Case.{Case}
 use Rattle.marked.specs.declared.Refusal.{Refusal}
 use Rattle.marked.specs.Marked.{scheduleOf, expected, cases, noCase, MarkedTable, CaseAt}
 use Rattle.marked.specs.Refused.{refusals, refusedSchedule, noRefusal, RefusalAt}
-use Rattle.marked.proofs.Table.{read-same, agree-at}
 
 -- the entry at place i of the table is handed out for k
 pub case-found : {table : List Case} → MarkedTable table → (d : Case) {i k : ℕ} → i ≡ k → k < 11 → CaseAt k (record { found = true; case = getD table i d })

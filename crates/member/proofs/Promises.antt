@@ -102,7 +102,7 @@ module _ (m : Member) (k : Tally) where
       some-rule (told k) (zerosOnly (m .round) k) (quiet (m .n) (m .t) (m .round) k) (enough (m .n) (m .t) (m .round) k) (eqb (m .round) (m .t + 1))
       (eq-eqb (m .round) (m .t + 1) e)
 
-  decides-last : m .t ≢ 0 → m .round ≡ m .t + 1 → becomes m k .decided ≢ 0
+  pub decides-last : m .t ≢ 0 → m .round ≡ m .t + 1 → becomes m k .decided ≢ 0
   decides-last p e =
       elim (true-or-false (eqb (m .decided) 0)) [
         | inl u ↦ let r = last-rule e in rw (becomes-later (eqb-true (m .decided) 0 u) (λ z. omega arith)) (λ z. omega arith)

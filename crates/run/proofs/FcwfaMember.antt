@@ -1,6 +1,6 @@
 -- FCWFA's member behaves as the run asks, and decides by its rules. Assumes nothing.
 use mathlib.Core.Path.{_≡_, refl, sym, ap, _∙_}
-use mathlib.Core.Logic.{_⊎_, inl, inr, _≢_}
+use mathlib.Core.Logic.{_⊎_, inl, inr}
 use mathlib.Core.List.{List}
 use mathlib.Core.Bool.{true, false, true≢false}
 use Prim.Native.Nat.{ℕ, suc, _+_, _≤_, _<_}
@@ -16,7 +16,7 @@ use Rattle.member.specs.State.{stopped}
 use Rattle.member.specs.Saying.{says}
 use Rattle.member.specs.Hearing.{tallyOf, estimates, told, ruleMet, firstEstimate, lowered, byRule, hears}
 use Rattle.member.specs.Promises.{HearingPromises}
-use Rattle.member.proofs.Promises.{becomes-first, becomes-later, undecided-step, hearing-promises}
+use Rattle.member.proofs.Promises.{becomes-first, becomes-later, undecided-step, decides-last, hearing-promises}
 use Rattle.run.specs.Protocol.{fcwfa}
 use Rattle.run.proofs.OneRound.{isEstimate, estimatesIn, NoneDecided, LoweredBy, ToldBy, FirstRound, by-zeros, by-quiet, by-count, by-last, Ends, decides, waits}
 use Rattle.run.proofs.Rows.{Counts, counts-of, some-one, no-one, told-value, is-told, not-told, lowered-by, first-estimate}
@@ -198,16 +198,13 @@ module _ (n t r : ℕ) (m : Member) (c : ℕ → ℕ) (a : Stands n t r m) (u : 
           })
 
 ends-last : (n t : ℕ) (m : Member) (row : List ℕ) → 3 ≤ t → Stands n t t m → m .decided ≡ 0 → hears m row .decided ≡ suc t
-unfolding byRule
-ends-last n t m row tl a u = let h = later n t t m row a u (omega arith) in ap (λ x. x .decided) (h .is) ∙ go (h .met) (h .chose) ∙ h .in-round
-  where
-    go : (met : Rule) → Chosen n t (suc t) (tallyOf row) met → byRule met m (tallyOf row) .decided ≡ m .round
-    go met (rule.by-message _) = refl
-    go met (rule.by-zeros _ _ _) = refl
-    go met (rule.by-quiet _ _ _) = refl
-    go met (rule.by-count _ _ _) = refl
-    go met (rule.by-last _ _) = refl
-    go met (rule.by-none _ _ _ _ end) = absurd (let g : suc t ≢ t + 1 = end in omega arith)
+ends-last n t m row tl a u =
+    let te = a .t-is in
+    let e = undecided-round n t t m a u in
+    elim (moves-of n t t m row a u) [
+      | inl z ↦ absurd (decides-last m (tallyOf row) (λ q. omega arith) (omega arith) z)
+      | inr d ↦ d
+    ]
 
 pub behaves : Behaves fcwfa 1 Stands
 behaves = record {
