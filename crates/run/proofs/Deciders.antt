@@ -2,7 +2,6 @@
 -- first decider finds one that goes before every other, and the last round is that of a decider. Assumes nothing.
 use mathlib.Core.Path.{_≡_, refl, sym, ap, _∙_}
 use mathlib.Core.Logic.{_⊎_, inl, inr, _≢_}
-use mathlib.Core.List.{List}
 use mathlib.Core.Bool.{true, false, not, _&&_, _||_, true≢false}
 use Prim.Native.Nat.{ℕ, zero, suc, _-_, _<_}
 use native.Mathlib.Nat.{not-suc-le-zero}
@@ -16,7 +15,7 @@ use Rattle.laws.proofs.Counting.{Some, split, below-or-top, count-short}
 use Rattle.laws.proofs.Folds.{largest-high, largest-is}
 use Rattle.schedule.specs.Schedule.{Schedule}
 use Rattle.schedule.specs.Questions.{Rules}
-use Rattle.run.specs.Protocol.{Protocol, fcwfa}
+use Rattle.run.specs.Protocol.{fcwfa}
 use Rattle.run.specs.Run.{final}
 use Rattle.run.specs.Report.{roundOf, before, firstWith, firstOf, lastOf}
 use Rattle.run.specs.Facts.{FirstIs, LastIs, Deciders}
@@ -25,22 +24,19 @@ use Rattle.run.proofs.CrashRounds.{crashRound}
 use Rattle.run.proofs.FcwfaRun.{runWorld, laws}
 use Rattle.run.proofs.Demand.{end-is}
 
-module _ (P : Protocol) (s : Schedule) (states : List (P .State)) where
-  abbrev R : ℕ → ℕ
-  R = roundOf P states
-
+module _ (R : ℕ → ℕ) where
   -- the order of two deciders, in plain facts
   data Before (i k : ℕ) : Type 0 where
     sooner : R i < R k → Before i k
     lower : R i ≡ R k → i < k → Before i k
 
-  before-is : (i k : ℕ) → Before i k → before P s states i k ≡ true
+  before-is : (i k : ℕ) → Before i k → before R i k ≡ true
   unfolding before
   before-is i k (sooner h) = or-left (ltb (R i) (R k)) (eqb (R i) (R k) && ltb i k) (lt-ltb (R i) (R k) h)
   before-is i k (lower e h) =
       or-right (ltb (R i) (R k)) (eqb (R i) (R k) && ltb i k) (and-both (eqb (R i) (R k)) (ltb i k) (eq-eqb (R i) (R k) e) (lt-ltb i k h))
 
-  is-before : (i k : ℕ) → before P s states i k ≡ true → Before i k
+  is-before : (i k : ℕ) → before R i k ≡ true → Before i k
   unfolding before
   is-before i k e =
       elim (or-true (ltb (R i) (R k)) (eqb (R i) (R k) && ltb i k) e) [
@@ -71,7 +67,7 @@ module _ (P : Protocol) (s : Schedule) (states : List (P .State)) where
   keeps-found k found z (one i e l d first) =
       one i e (omega arith) d (below-or-top (λ j. j ≢ i → R j ≢ 0 → Before i j) k first (λ _ n. absurd (n z)))
 
-  takes-over : (k found : ℕ) → R k ≢ 0 → (eqb found 0 ≡ true) ⊎ (before P s states k (found - 1) ≡ true) → Found k found → Found (suc k) (suc k)
+  takes-over : (k found : ℕ) → R k ≢ 0 → (eqb found 0 ≡ true) ⊎ (before R k (found - 1) ≡ true) → Found k found → Found (suc k) (suc k)
   takes-over k found d b (none e all) =
       one k refl (omega arith) d (below-or-top (λ j. j ≢ k → R j ≢ 0 → Before k j) k (λ j jl _ n. absurd (n (all j jl))) (λ n _. absurd (n refl)))
   takes-over k found d (inl z) (one i e l di first) = absurd (let q = eqb-true found 0 z in omega arith)
@@ -87,46 +83,46 @@ module _ (P : Protocol) (s : Schedule) (states : List (P .State)) where
             | inr x ↦ before-trans k i j b′ (first j jl (eqb-false j i x) dj)
           ]
 
-  stays-first : (k found : ℕ) → eqb found 0 ≡ false → before P s states k (found - 1) ≡ false → Found k found → Found (suc k) found
+  stays-first : (k found : ℕ) → eqb found 0 ≡ false → before R k (found - 1) ≡ false → Found k found → Found (suc k) found
   stays-first k found z b (none e all) = absurd (eqb-false found 0 z e)
   stays-first k found z b (one i e l d first) =
       let q : found - 1 ≡ i = omega arith in
-      let not-before : before P s states k i ≡ false = rw q at b in
+      let not-before : before R k i ≡ false = rw q at b in
       one i e (omega arith) d
       (below-or-top (λ j. j ≢ i → R j ≢ 0 → Before i j) k first (λ _ _.
       elim (before-or i k l) [ inl h ↦ h | inr h ↦ absurd (true≢false (sym (before-is k i h) ∙ not-before)) ]))
 
   module _ (k found : ℕ) where
-    passes-over : R k ≡ 0 → firstWith P s states k found ≡ found
+    passes-over : R k ≡ 0 → firstWith R k found ≡ found
     unfolding firstWith
     passes-over z = cond-false _ _ _ (and-no-left _ _ (ap not (eq-eqb (R k) 0 z)))
 
-    puts-first : R k ≢ 0 → (eqb found 0 || before P s states k (found - 1)) ≡ true → firstWith P s states k found ≡ suc k
+    puts-first : R k ≢ 0 → (eqb found 0 || before R k (found - 1)) ≡ true → firstWith R k found ≡ suc k
     unfolding firstWith
     puts-first d b = cond-true _ _ _ (and-both _ _ (ap not (ne-eqb (R k) 0 d)) b) ∙ add-one k
 
-    leaves-first : (eqb found 0 || before P s states k (found - 1)) ≡ false → firstWith P s states k found ≡ found
+    leaves-first : (eqb found 0 || before R k (found - 1)) ≡ false → firstWith R k found ≡ found
     unfolding firstWith
     leaves-first b = cond-false _ _ _ (and-no-right (not (eqb (R k) 0)) _ b)
 
-    found-step : Found k found → Found (suc k) (firstWith P s states k found)
+    found-step : Found k found → Found (suc k) (firstWith R k found)
     found-step h =
         elim (true-or-false (eqb (R k) 0)) [
           | inl z ↦ rw (passes-over (eqb-true (R k) 0 z)) (keeps-found k found (eqb-true (R k) 0 z) h)
           | inr d ↦
               let nz = eqb-false (R k) 0 d in
-              elim (true-or-false (eqb found 0 || before P s states k (found - 1))) [
-                | inl b ↦ rw (puts-first nz b) (takes-over k found nz (or-true (eqb found 0) (before P s states k (found - 1)) b) h)
+              elim (true-or-false (eqb found 0 || before R k (found - 1))) [
+                | inl b ↦ rw (puts-first nz b) (takes-over k found nz (or-true (eqb found 0) (before R k (found - 1)) b) h)
                 | inr b ↦
-                    let n = or-false (eqb found 0) (before P s states k (found - 1)) b in
+                    let n = or-false (eqb found 0) (before R k (found - 1)) b in
                     rw (leaves-first b) (stays-first k found (n .0) (n .1) h)
               ]
         ]
 
-  found-all : (k : ℕ) → Found k (fold k (firstWith P s states) 0)
+  found-all : (k : ℕ) → Found k (fold k (firstWith R) 0)
   unfolding fold
   found-all zero = none refl (λ j l. absurd (not-suc-le-zero l))
-  found-all (suc k) = found-step k (fold k (firstWith P s states) 0) (found-all k)
+  found-all (suc k) = found-step k (fold k (firstWith R) 0) (found-all k)
 
 module _ (s : Schedule) (ok : Rules s) where
   abbrev ends : ℕ → ℕ
@@ -145,7 +141,7 @@ module _ (s : Schedule) (ok : Rules s) where
   first-of-run : (i : ℕ) × FirstIs s i
   unfolding firstOf
   first-of-run =
-      elim (found-all fcwfa s (final fcwfa s) (s .n)) [
+      elim (found-all ends (s .n)) [
         | none e all ↦ absurd (some-decides .2 (all (some-decides .0) (some-decides .1)))
         | one i e l d first ↦ (
           i,
@@ -153,7 +149,7 @@ module _ (s : Schedule) (ok : Rules s) where
             reported = e ∙ sym (add-one i);
             process = l;
             decides = d;
-            goes-before = λ k kl ne dk. before-is fcwfa s (final fcwfa s) i k (first k kl ne dk);
+            goes-before = λ k kl ne dk. before-is ends i k (first k kl ne dk);
           },
         )
       ]

@@ -15,23 +15,23 @@ use Rattle.laws.proofs.Lists.{getD-tabulate}
 use Rattle.member.specs.Saying.{nothing}
 use Rattle.schedule.specs.Schedule.{Schedule, names, voteOf, crashOf, reachOf}
 use Rattle.run.specs.Protocol.{Protocol}
-use Rattle.run.specs.Run.{completes, hearsFrom, stateAt, codeHeard, rowOf, nextState, played, opened, statesAfter, after}
-use Rattle.run.specs.Report.{sent}
+use Rattle.run.specs.Run.{completesRound, isHeard, delivered, completes, stateAt, codeHeard, rowOf, nextState, played, opened, statesAfter, after}
+use Rattle.run.specs.Report.{sentBy, sent}
 use Rattle.run.specs.Facts.{WhoHearsWhom, WhatIsSent, WhoMoves}
 
 module _ (s : Schedule) (r i : ℕ) where
   -- a process completes the rounds before its crash round, and all of them if that is 0
   pub completes-not : 1 ≤ crashOf s i → crashOf s i ≤ r → completes s r i ≡ false
-  unfolding completes
+  unfolding completesRound
   completes-not lo hi = or-neither _ _ (ne-eqb (crashOf s i) 0 (λ z. omega arith)) (le-ltb r _ (omega arith))
 
   pub completes-if : (crashOf s i ≡ 0) ⊎ (r < crashOf s i) → completes s r i ≡ true
-  unfolding completes
+  unfolding completesRound
   completes-if (inl z) = or-left _ _ (eq-eqb (crashOf s i) 0 z)
   completes-if (inr l) = or-right (eqb (crashOf s i) 0) _ (lt-ltb r _ (omega arith))
 
   pub if-completes : completes s r i ≡ true → (crashOf s i ≡ 0) ⊎ (r < crashOf s i)
-  unfolding completes
+  unfolding completesRound
   if-completes e = elim (or-true (eqb (crashOf s i) 0) _ e) [ inl z ↦ inl (eqb-true (crashOf s i) 0 z) | inr l ↦ inr (ltb-true r (crashOf s i) l) ]
 
   -- in a round it completes it, crashes in it, or crashed before
@@ -58,29 +58,29 @@ module _ (P : Protocol) (s : Schedule) where
     said = P .says (stateAt P states j)
 
     module _ (i : ℕ) where
-      unnamed-not : r ≢ 0 → crashOf s j ≡ r → names (reachOf s j) i ≡ false → hearsFrom s r i j ≡ false
-      unfolding hearsFrom
+      unnamed-not : r ≢ 0 → crashOf s j ≡ r → names (reachOf s j) i ≡ false → isHeard r i (crashOf s j) (reachOf s j) ≡ false
+      unfolding isHeard
       unnamed-not nz e n = or-neither _ _ (completes-not s r j (omega arith) (omega arith)) (and-no-right (eqb (crashOf s j) r) _ n)
 
-      gone-not : 1 ≤ crashOf s j → crashOf s j < r → hearsFrom s r i j ≡ false
-      unfolding hearsFrom
+      gone-not : 1 ≤ crashOf s j → crashOf s j < r → isHeard r i (crashOf s j) (reachOf s j) ≡ false
+      unfolding isHeard
       gone-not lo hi = or-neither _ _ (completes-not s r j lo (omega arith)) (and-no-left _ _ (ne-eqb (crashOf s j) r (λ e. omega arith)))
 
-      completing-heard : completes s r j ≡ true → hearsFrom s r i j ≡ true
-      unfolding hearsFrom
+      completing-heard : completes s r j ≡ true → isHeard r i (crashOf s j) (reachOf s j) ≡ true
+      unfolding isHeard
       completing-heard c = or-left _ _ c
 
-      named-heard : crashOf s j ≡ r → names (reachOf s j) i ≡ true → hearsFrom s r i j ≡ true
-      unfolding hearsFrom
+      named-heard : crashOf s j ≡ r → names (reachOf s j) i ≡ true → isHeard r i (crashOf s j) (reachOf s j) ≡ true
+      unfolding isHeard
       named-heard e n = or-right (completes s r j) _ (and-both _ _ (eq-eqb (crashOf s j) r e) n)
 
-      code-said : hearsFrom s r i j ≡ true → codeHeard P s r states i j ≡ said
-      unfolding codeHeard
-      code-said h = cond-true (hearsFrom s r i j) _ _ h
+      code-said : isHeard r i (crashOf s j) (reachOf s j) ≡ true → codeHeard P s r states i j ≡ said
+      unfolding codeHeard delivered
+      code-said h = cond-true (isHeard r i (crashOf s j) (reachOf s j)) _ _ h
 
-      code-nothing : hearsFrom s r i j ≡ false → codeHeard P s r states i j ≡ nothing
-      unfolding codeHeard
-      code-nothing h = cond-false (hearsFrom s r i j) _ _ h
+      code-nothing : isHeard r i (crashOf s j) (reachOf s j) ≡ false → codeHeard P s r states i j ≡ nothing
+      unfolding codeHeard delivered
+      code-nothing h = cond-false (isHeard r i (crashOf s j) (reachOf s j)) _ _ h
 
       pub who-hears-whom : WhoHearsWhom P s r states i j
       who-hears-whom = record {
@@ -91,20 +91,20 @@ module _ (P : Protocol) (s : Schedule) where
       }
 
     sends-nothing : said ≡ nothing → sent P s r states j ≡ 0
-    unfolding sent
+    unfolding sentBy
     sends-nothing h = cond-true _ _ _ (eq-eqb said nothing h)
 
     sends-to-all : said ≢ nothing → completes s r j ≡ true → sent P s r states j ≡ s .n
-    unfolding sent
+    unfolding sentBy
     sends-to-all h c = cond-false _ 0 _ (ne-eqb said nothing h) ∙ cond-true (completes s r j) (s .n) _ c
 
     sends-to-reach : said ≢ nothing → completes s r j ≡ false → crashOf s j ≡ r → sent P s r states j ≡ ones (reachOf s j)
-    unfolding sent
+    unfolding sentBy
     sends-to-reach h c e =
         cond-false _ 0 _ (ne-eqb said nothing h) ∙ cond-false (completes s r j) _ _ c ∙ cond-true (eqb (crashOf s j) r) (ones (reachOf s j)) _ (eq-eqb (crashOf s j) r e)
 
     sends-no-more : said ≢ nothing → completes s r j ≡ false → crashOf s j ≢ r → sent P s r states j ≡ 0
-    unfolding sent
+    unfolding sentBy
     sends-no-more h c e =
         cond-false _ 0 _ (ne-eqb said nothing h) ∙ cond-false (completes s r j) _ _ c ∙ cond-false (eqb (crashOf s j) r) _ 0 (ne-eqb (crashOf s j) r e)
 

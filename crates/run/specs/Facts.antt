@@ -68,7 +68,7 @@ pub record FirstIs (s : Schedule) (i : ℕ) : Type 0 where
   pub reported : report fcwfa s .first ≡ i + 1
   pub process : i < s .n
   pub decides : roundOf fcwfa (final fcwfa s) i ≢ 0
-  pub goes-before : (k : ℕ) → k < s .n → k ≢ i → roundOf fcwfa (final fcwfa s) k ≢ 0 → before fcwfa s (final fcwfa s) i k ≡ true
+  pub goes-before : (k : ℕ) → k < s .n → k ≢ i → roundOf fcwfa (final fcwfa s) k ≢ 0 → before (roundOf fcwfa (final fcwfa s)) i k ≡ true
 
 -- process i is one that decides in the reported last round, and none decides later
 pub record LastIs (s : Schedule) (i : ℕ) : Type 0 where

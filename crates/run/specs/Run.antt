@@ -9,23 +9,31 @@ use Rattle.member.specs.Saying.{nothing}
 use Rattle.schedule.specs.Schedule.{Schedule, names, voteOf, crashOf, reachOf}
 use Rattle.run.specs.Protocol.{Protocol}
 
-module _ (s : Schedule) where
-  -- "In round r a process with crash round c = 0 or c > r completes the round."
-  unfoldable pub completes : ℕ → ℕ → Bool
-  completes r i = eqb (crashOf s i) 0 || ltb r (crashOf s i)
+-- "In round r a process with crash round c = 0 or c > r completes the round."
+unfoldable pub completesRound : ℕ → ℕ → Bool
+completesRound r c = eqb c 0 || ltb r c
 
-  -- "It hears from j what j says, if j completes the round; or if j's crash round is r and its reach names the hearer": i hears from j
-  unfoldable pub hearsFrom : ℕ → ℕ → ℕ → Bool
-  hearsFrom r i j = completes r j || (eqb (crashOf s j) r && names (reachOf s j) i)
+-- Whether the process at place i hears in round r from j, whose crash round and reach are c and reach: "if j completes the round; or if j's crash
+-- round is r and its reach names the hearer"
+unfoldable pub isHeard : ℕ → ℕ → ℕ → ℕ → Bool
+isHeard r i c reach = completesRound r c || (eqb c r && names reach i)
+
+-- what it hears from j: "what j says", the code, if it hears from j, "else nothing"
+unfoldable pub delivered : ℕ → ℕ → ℕ → ℕ → ℕ → ℕ
+delivered r i c reach code = cond (isHeard r i c reach) code nothing
+
+-- process i of a schedule completes round r
+abbrev pub completes : Schedule → ℕ → ℕ → Bool
+completes s r i = completesRound r (crashOf s i)
 
 -- the state at place i of the states side by side; every place below n holds one
 abbrev pub stateAt : (P : Protocol) → List (P .State) → ℕ → P .State
 stateAt P states i = getD states i (P .opening 0 0 0 0)
 
 module _ (P : Protocol) (s : Schedule) where
-  -- what process i hears from j in round r: "what j says" if it hears from j, "else nothing"
+  -- what process i hears from j in round r, of the states at its start
   unfoldable pub codeHeard : ℕ → List (P .State) → ℕ → ℕ → ℕ
-  codeHeard r states i j = cond (hearsFrom s r i j) (P .says (stateAt P states j)) nothing
+  codeHeard r states i j = delivered r i (crashOf s j) (reachOf s j) (P .says (stateAt P states j))
 
   -- the row of codes that process i hears in round r, of the states at its start
   unfoldable pub rowOf : ℕ → List (P .State) → ℕ → List ℕ
