@@ -5,3 +5,4 @@ pub mod Sums
 pub mod Lists
 pub mod Folds
 pub mod Answer
+pub mod Filled

@@ -1,6 +1,6 @@
 -- Reading a list at a place: what a list made by `tabulate` holds, that what stands past the end does not matter below it, and that two functions
 -- which agree along a list agree at each place. Assumes nothing.
-use mathlib.Core.Path.{_≡_, refl, sym, ap, _∙_}
+use mathlib.Core.Path.{_≡_, refl, sym, ap, ap₂, _∙_}
 use mathlib.Core.Logic.{inl, inr}
 use mathlib.Core.List.{List, [], _∷_, _++_, map}
 use Prim.Native.Nat.{ℕ, zero, suc, _<_}
@@ -44,3 +44,9 @@ module _ {A : Type 0} where
   agree-at f g [] d e i h = absurd (not-suc-le-zero h)
   agree-at f g (x ∷ l) d e zero h = cc
   agree-at f g (x ∷ l) d e (suc i) h = agree-at f g l d (cc) i (le-of-suc-le-suc h)
+
+  -- and two that agree below n make the same list
+  pub tabulate-same : (n : ℕ) (f g : ℕ → A) → ((i : ℕ) → i < n → f i ≡ g i) → tabulate n f ≡ tabulate n g
+  unfolding tabulate
+  tabulate-same zero f g h = refl
+  tabulate-same (suc n) f g h = ap₂ (λ (l : List A) (x : A). l ++ (x ∷ [])) (tabulate-same n f g (λ i l. h i (omega arith))) (h n (omega arith))

@@ -1,10 +1,11 @@
 -- Bounds of a sum below n from bounds of its terms. Assumes nothing.
-use mathlib.Core.Path.{_≡_, refl}
+use mathlib.Core.Path.{_≡_, refl, ap, ap₂}
 use mathlib.Core.Logic.{inl, inr}
-use Prim.Native.Nat.{ℕ, zero, suc, _*_, _≤_, _<_, min, zero-le}
+use Prim.Native.Nat.{ℕ, zero, suc, _+_, _*_, _≤_, _<_, min, zero-le}
+use native.Mathlib.Nat.{not-suc-le-zero}
 use native.Mathlib.Omega.{arith}
 use Rattle.laws.specs.Below.{sum}
-use Rattle.laws.proofs.Counting.{split}
+use Rattle.laws.proofs.Counting.{split, below-or-top}
 
 pub sum-zero : (n : ℕ) (f : ℕ → ℕ) → ((i : ℕ) → i < n → f i ≡ 0) → sum n f ≡ 0
 unfolding sum
@@ -13,6 +14,27 @@ sum-zero (suc n) f h =
     let a = sum-zero n f (λ i l. h i (omega arith)) in
     let b = h n (omega arith) in
     omega arith
+
+pub sum-same : (n : ℕ) (f g : ℕ → ℕ) → ((i : ℕ) → i < n → f i ≡ g i) → sum n f ≡ sum n g
+unfolding sum
+sum-same zero f g h = refl
+sum-same (suc n) f g h = ap₂ _+_ (sum-same n f g (λ i l. h i (omega arith))) (h n (omega arith))
+
+-- a sum of 0 has no term but 0
+pub sum-none : (n : ℕ) (f : ℕ → ℕ) → sum n f ≡ 0 → (i : ℕ) → i < n → f i ≡ 0
+unfolding sum
+sum-none zero f z i l = absurd (not-suc-le-zero l)
+sum-none (suc n) f z i l = below-or-top (λ j. f j ≡ 0) n (sum-none n f (omega arith)) (omega arith) i l
+
+-- terms of 0 from k on add nothing
+pub sum-ends : (n k : ℕ) (f : ℕ → ℕ) → k ≤ n → ((i : ℕ) → k ≤ i → f i ≡ 0) → sum n f ≡ sum k f
+unfolding sum
+sum-ends zero k f l z = let e : 0 ≡ k = omega arith in ap (λ (m : ℕ). sum m f) e
+sum-ends (suc n) k f l z =
+    elim (split k n) [
+      | inl a ↦ let e = sum-ends n k f a z in let y = z n a in omega arith
+      | inr a ↦ let e : suc n ≡ k = omega arith in ap (λ (m : ℕ). sum m f) e
+    ]
 
 pub sum-high : (n x : ℕ) (f : ℕ → ℕ) → ((i : ℕ) → i < n → f i ≤ x) → sum n f ≤ x * n
 unfolding sum

@@ -1,3 +1,4 @@
 pub mod Test
 pub mod Below
 pub mod Answer
+pub mod Filled

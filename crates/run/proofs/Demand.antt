@@ -51,14 +51,14 @@ module _ (s : Schedule) (ok : Rules s) where
       let b = ap (λ m. m .estimate) (end-is i) in
       record { process = l; round = omega arith; not-none = λ z. omega arith; value = omega arith }
 
-  abbrev f : ℕ
+  abbrev pub f : ℕ
   f = report fcwfa s .f
 
-  abbrev B : ℕ
+  abbrev pub B : ℕ
   B = roundB f (s .t)
 
   -- B = f + 2 is late enough if it is at most t, and so is f + 1 otherwise
-  late-enough : LateEnough (runWorld s) B
+  pub late-enough : LateEnough (runWorld s) B
   unfolding roundB
   late-enough =
       let all = crashes-all s ok in

@@ -17,6 +17,8 @@ pub mod RunWorld
 pub mod FcwfaRun
 pub mod Demand
 pub mod Reported
+pub mod Given
 pub mod Deciders
 pub mod NoneRefused
+pub mod Silence
 pub mod Theorem

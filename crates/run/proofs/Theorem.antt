@@ -2,14 +2,18 @@
 use mathlib.Core.Path.{_≡_}
 use mathlib.Core.Bool.{Bool}
 use Prim.Native.Nat.{ℕ}
+use native.Mathlib.Omega.{arith}
 use Rattle.schedule.specs.Schedule.{Schedule}
 use Rattle.schedule.specs.Questions.{question}
 use Rattle.schedule.proofs.Accepted.{question-accepted}
+use Rattle.run.specs.Protocol.{fcwfa}
 use Rattle.run.specs.Facts.{RunPromises}
 use Rattle.run.proofs.Demand.{demand-3, by-crashes-so-far}
 use Rattle.run.proofs.Deciders.{deciders}
 use Rattle.run.proofs.Reported.{reported}
 use Rattle.run.proofs.NoneRefused.{none-refused}
+use Rattle.run.proofs.Given.{given-demand-3}
+use Rattle.run.proofs.Silence.{silent-from, mute-stops}
 
 pub accepted-run : (s : Schedule) (limit : ℕ) (answers : Bool) → question s limit answers ≡ 0 → RunPromises limit s
 accepted-run s limit answers e =
@@ -20,4 +24,6 @@ accepted-run s limit answers e =
       reported = reported s (a .rules);
       deciders = deciders s (a .rules);
       none-refused = none-refused s (a .rules) limit (a .n-high);
+      silence = let low = a .n-low in silent-from fcwfa s (omega arith) mute-stops;
+      given-demand-3 = given-demand-3 s (a .rules);
     }

@@ -1,5 +1,5 @@
 -- What holds of every run besides demand 3: what its definitions come to, process by process, and the facts that the bench and its readers rely
--- on. Proved in proofs/Rounds.antt, Demand.antt, Deciders.antt, Reported.antt and NoneRefused.antt. Assumes nothing.
+-- on. Proved in proofs/Rounds.antt, Demand.antt, Deciders.antt, Reported.antt, NoneRefused.antt and Silence.antt. Assumes nothing.
 use Prim.Native.Nat.{ℕ, suc, _+_, _-_, _≤_, _<_}
 use mathlib.Core.Path.{_≡_}
 use mathlib.Core.Logic.{_≢_}
@@ -14,8 +14,9 @@ use Rattle.member.specs.Questions.{sayQuestion, hearQuestion}
 use Rattle.schedule.specs.Schedule.{Schedule, names, voteOf, crashOf, reachOf, crashedBy}
 use Rattle.run.specs.Protocol.{Protocol, fcwfa}
 use Rattle.run.specs.Run.{stateAt, codeHeard, rowOf, statesAfter, after, final}
-use Rattle.run.specs.Report.{roundOf, before, sent, report}
+use Rattle.run.specs.Report.{roundOf, before, sent, sentAfter, report}
 use Rattle.run.specs.Demand.{Completes, Decides, CompletesUndecided, Demand3}
+use Rattle.run.specs.Given.{GivenDemand3}
 
 module _ (P : Protocol) (s : Schedule) where
   -- Who hears whom in round r, whatever the states at its start: what i hears from j.
@@ -46,6 +47,11 @@ module _ (P : Protocol) (s : Schedule) where
     -- one that crashes in the round or crashed before keeps its state, and so does one that is stopped
     pub crashed : 1 ≤ crashOf s i → crashOf s i ≤ suc r → after P s (suc r) i ≡ after P s r i
     pub rests : P .stopped (after P s r i) ≡ true → after P s (suc r) i ≡ after P s r i
+
+  -- Nothing happens any more after r rounds: the states stay as they are, and no round that follows sends anything.
+  pub record SilentFrom (r : ℕ) : Type 0 where
+    pub states : (k : ℕ) → r ≤ k → statesAfter P s k ≡ statesAfter P s r
+    pub sends : (k : ℕ) → r ≤ k → sentAfter P s k ≡ 0
 
 -- By the crashes so far: a process that completes round r undecided has this many processes with crash rounds from 1 to r. Round B follows.
 pub record CrashesSoFar (s : Schedule) : Type 0 where
@@ -100,3 +106,7 @@ pub record RunPromises (limit : ℕ) (s : Schedule) : Type 0 where
   pub reported : Reported s
   pub deciders : Deciders s
   pub none-refused : NoneRefused limit s
+  -- a round in which nothing is sent is followed by nothing else, so a run may end there
+  pub silence : (r : ℕ) → sentAfter fcwfa s r ≡ 0 → SilentFrom fcwfa s r
+  -- demand 3 of the report itself, on its counts and its tables
+  pub given-demand-3 : GivenDemand3 s (report fcwfa s)

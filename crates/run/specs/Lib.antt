@@ -2,4 +2,5 @@ pub mod Protocol
 pub mod Run
 pub mod Report
 pub mod Demand
+pub mod Given
 pub mod Facts

@@ -59,9 +59,13 @@ module _ (P : Protocol) (s : Schedule) where
   abbrev pub sent : ℕ → List (P .State) → ℕ → ℕ
   sent r states j = sentBy (s .n) r (crashOf s j) (reachOf s j) (P .says (stateAt P states j))
 
+  -- the messages of all senders in the round that follows r rounds
+  abbrev pub sentAfter : ℕ → ℕ
+  sentAfter r = sum (s .n) (sent (suc r) (statesAfter P s r))
+
   -- "messages, the sum over all rounds and senders": of rounds 1 to t + 1
   unfoldable pub messages : ℕ
-  messages = sum (s .t + 1) (λ r. sum (s .n) (sent (suc r) (statesAfter P s r)))
+  messages = sum (s .t + 1) sentAfter
 
   -- "The bench gives exactly these decisions and rounds, and the counts above of this run."
   abbrev pub report : Report

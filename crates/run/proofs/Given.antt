@@ -1,0 +1,58 @@
+-- Demand 3 of what is given: the tables hold what each process decides, and whoever does not complete round B undecided has decided by it, since a
+-- decision stays and is never made later than the round after which it stands. Assumes nothing.
+use mathlib.Core.Path.{_≡_, refl, sym, ap, _∙_}
+use mathlib.Core.Logic.{inl, inr, _≢_}
+use Prim.Native.Nat.{ℕ, suc, _≤_, _<_}
+use native.Mathlib.Nat.{eq-zero-or-pos}
+use native.Mathlib.Omega.{arith}
+use lib.ListN.{getD}
+use Rattle.schedule.specs.Schedule.{Schedule}
+use Rattle.schedule.specs.Questions.{Rules}
+use Rattle.run.specs.Protocol.{fcwfa}
+use Rattle.run.specs.Run.{stateAt, after, final}
+use Rattle.run.specs.Report.{report}
+use Rattle.run.specs.Demand.{Completes, Decides}
+use Rattle.run.specs.Given.{Gives, GivesBy, givenB, GivenDemand3}
+use Rattle.run.proofs.States.{range, stays}
+use Rattle.run.proofs.FcwfaRun.{runWorld, laws}
+use Rattle.run.proofs.Demand.{B, late-enough, end-is, demand-3}
+use Rattle.run.proofs.Reported.{reported}
+
+module _ (s : Schedule) (ok : Rules s) where
+  gives : (i v r : ℕ) → Decides fcwfa s i v r → Gives s (report fcwfa s) i v r
+  gives i v r d = let x = reported s ok .decided i v r d in record { process = d .process; decision = x .0; round = x .1; not-none = d .not-none }
+
+  decides : (i v r : ℕ) → Gives s (report fcwfa s) i v r → Decides fcwfa s i v r
+  decides i v r g =
+      let d = reported s ok .decides i (g .process) (λ z. g .not-none (sym (g .round) ∙ z)) in
+      record { process = g .process; round = d .round ∙ g .round; not-none = g .not-none; value = d .value ∙ g .decision }
+
+  -- a decision that stands after round b is made by then and stays
+  by-round : (b i : ℕ) → b ≤ suc (s .t) → i < s .n → 0 < after fcwfa s b i .decided → GivesBy s (report fcwfa s) b i
+  by-round b i high l p =
+      let e = ap (λ m. m .decided) (end-is s ok i) in
+      let st = stays (runWorld s) (laws s ok) b (suc (s .t)) i high (omega arith) l p in
+      elim (range (runWorld s) (laws s ok) b high i l) [
+        | inl z ↦ absurd (omega arith)
+        | inr made ↦
+            let h = made .high in
+            let d : Decides fcwfa s i (stateAt fcwfa (final fcwfa s) i .estimate) (stateAt fcwfa (final fcwfa s) i .decided) =
+            record { process = l; round = refl; not-none = λ z. omega arith; value = refl } in
+            record { value = _; in-round = _; gives = gives _ _ _ d; by = omega arith }
+      ]
+
+  pub given-demand-3 : GivenDemand3 s (report fcwfa s)
+  given-demand-3 =
+      let d = demand-3 s ok in
+      record {
+        agreement = λ i k v x q r g h. d .agreement i k v x q r (decides i v q g) (decides k x r h);
+        abort-validity = λ z i v r g. d .abort-validity z i v r (decides i v r g);
+        round-b = λ i c.
+            elim (eq-zero-or-pos (after fcwfa s (B s ok) i .decided)) [
+              | inl z ↦ absurd (d .round-b i (record { completes-it = c; undecided = z }))
+              | inr p ↦ by-round (B s ok) i (late-enough s ok .high) (c .process) p
+            ];
+        message-bound = d .message-bound;
+        weak-fast-abort = λ z i c. gives i 0 2 (d .weak-fast-abort z i c);
+        fast-commit = λ all none i l. gives i 1 2 (d .fast-commit all none i l);
+      }

@@ -1,0 +1,42 @@
+-- Demand 3 of what the bench gives for a schedule, on its counts and its two tables alone. Proved in proofs/Given.antt:
+-- `given-demand-3 : (s : Schedule) → Rules s → GivenDemand3 s (report fcwfa s)`. Assumes nothing.
+use Prim.Native.Nat.{ℕ, _+_, _*_, _≤_, _<_, min}
+use mathlib.Core.Path.{_≡_}
+use mathlib.Core.Logic.{_≢_}
+use lib.ListN.{getD}
+use Rattle.schedule.specs.Schedule.{Schedule, voteOf}
+use Rattle.run.specs.Report.{Report}
+use Rattle.run.specs.Demand.{Completes, roundB, SomeVotedZero}
+
+module _ (s : Schedule) (given : Report) where
+  -- the tables give process i the decision v, in round r, not 0
+  pub record Gives (i v r : ℕ) : Type 0 where
+    pub process : i < s .n
+    pub decision : getD (given .decisions) i 2 ≡ v
+    pub round : getD (given .rounds) i 0 ≡ r
+    pub not-none : r ≢ 0
+
+  -- they give it a decision, in round b or before
+  pub record GivesBy (b i : ℕ) : Type 0 where
+    pub value : ℕ
+    pub in-round : ℕ
+    pub gives : Gives i value in-round
+    pub by : in-round ≤ b
+
+  -- round B by the count f that is given
+  abbrev pub givenB : ℕ
+  givenB = roundB (given .f) (s .t)
+
+  pub record GivenDemand3 : Type 0 where
+    -- any two processes that are given a decision, crashed ones included, are given the same
+    pub agreement : (i k v x q r : ℕ) → Gives i v q → Gives k x r → v ≡ x
+    -- if some process voted 0, every decision that is given is 0
+    pub abort-validity : SomeVotedZero s → (i v r : ℕ) → Gives i v r → v ≡ 0
+    -- every process that completes round B is given a decision, in round B or before
+    pub round-b : (i : ℕ) → Completes s givenB i → GivesBy givenB i
+    -- the messages that are given are at most n × n × the smaller of B + 1 and t + 1
+    pub message-bound : given .messages ≤ s .n * s .n * min (givenB + 1) (s .t + 1)
+    -- if some process voted 0, every process that completes round 2 is given 0 in round 2
+    pub weak-fast-abort : SomeVotedZero s → (i : ℕ) → Completes s 2 i → Gives i 0 2
+    -- if all votes are 1 and the f that is given is 0, every process is given 1 in round 2
+    pub fast-commit : ((k : ℕ) → k < s .n → voteOf s k ≡ 1) → given .f ≡ 0 → (i : ℕ) → i < s .n → Gives i 1 2
