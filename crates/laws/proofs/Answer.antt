@@ -9,7 +9,7 @@ use borrow.Author.Count.{below-none}
 use borrow.Author.Tests.{eqb-true, eqb-false, eq-eqb, ne-eqb}
 use lib.Dec.{eqb}
 use Rattle.laws.specs.Below.{fold}
-use Rattle.laws.specs.Answer.{ask, andThen, askEach, accepted, refused, answer}
+use Rattle.laws.specs.Answer.{ask, andThen, askEach, Answer, accepted, refused, answer}
 use Rattle.laws.proofs.Test.{true-or-false, cond-true, cond-false}
 use Rattle.laws.proofs.Counting.{below-or-top}
 
@@ -58,3 +58,12 @@ module _ {A B : Type 0} where
   pub answer-refused : (q : ℕ) (value : A) (back : B) → (q ≡ 0 → ⊥) → answer q value back ≡ refused q back
   unfolding answer
   answer-refused q value back e = rw (ne-eqb q 0 e)
+
+  -- the value of an answer, or x where it is a refusal
+  abbrev pub valueOr : A → Answer A B → A
+  valueOr x (accepted value) = value
+  valueOr x (refused number back) = x
+
+  -- a call whose questions come to 0 answers its value: whatever x is, it is not that of a refusal
+  pub answered : (q : ℕ) (value : A) (back : B) → q ≡ 0 → (x : A) {a : Answer A B} → a ≡ answer q value back → valueOr x a ≡ value
+  answered q value back z x e = ap (valueOr x) (e ∙ answer-accepted q value back z)

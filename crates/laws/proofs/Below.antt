@@ -8,6 +8,10 @@ use Rattle.laws.specs.Below.{sum, bit, count}
 
 -- A loop's variable k holds the sum, or the count, of the numbers passed.
 
+pub sum-start : (f : ℕ → ℕ) → 0 ≡ sum 0 f
+unfolding sum
+sum-start f = refl
+
 pub sum-step : (i : ℕ) (f : ℕ → ℕ) (k x : ℕ) → k ≡ sum i f → x ≡ f i → k + x ≡ sum (i + 1) f
 unfolding sum
 sum-step i f k x p q = rw add-one cc

@@ -93,15 +93,15 @@ module _ (R : ℕ → ℕ) where
       elim (before-or i k l) [ inl h ↦ h | inr h ↦ absurd (true≢false (sym (before-is k i h) ∙ not-before)) ]))
 
   module _ (k found : ℕ) where
-    passes-over : R k ≡ 0 → firstWith R k found ≡ found
+    pub passes-over : R k ≡ 0 → firstWith R k found ≡ found
     unfolding firstWith
     passes-over z = cond-false _ _ _ (and-no-left _ _ (ap not (eq-eqb (R k) 0 z)))
 
-    puts-first : R k ≢ 0 → (eqb found 0 || before R k (found - 1)) ≡ true → firstWith R k found ≡ suc k
+    pub puts-first : R k ≢ 0 → (eqb found 0 || before R k (found - 1)) ≡ true → firstWith R k found ≡ suc k
     unfolding firstWith
     puts-first d b = cond-true _ _ _ (and-both _ _ (ap not (ne-eqb (R k) 0 d)) b) ∙ add-one k
 
-    leaves-first : (eqb found 0 || before R k (found - 1)) ≡ false → firstWith R k found ≡ found
+    pub leaves-first : (eqb found 0 || before R k (found - 1)) ≡ false → firstWith R k found ≡ found
     unfolding firstWith
     leaves-first b = cond-false _ _ _ (and-no-right (not (eqb (R k) 0)) _ b)
 

@@ -15,7 +15,7 @@ use Rattle.laws.proofs.Lists.{getD-tabulate}
 use Rattle.member.specs.Saying.{nothing}
 use Rattle.schedule.specs.Schedule.{Schedule, names, voteOf, crashOf, reachOf}
 use Rattle.run.specs.Protocol.{Protocol}
-use Rattle.run.specs.Run.{completesRound, isHeard, delivered, completes, stateAt, codeHeard, rowOf, nextState, played, opened, statesAfter, after}
+use Rattle.run.specs.Run.{completesRound, isHeard, delivered, completes, stateAt, codeHeard, rowOf, stateAfter, nextState, played, opened, statesAfter, after}
 use Rattle.run.specs.Report.{sentBy, sent}
 use Rattle.run.specs.Facts.{WhoHearsWhom, WhatIsSent, WhoMoves}
 
@@ -125,21 +125,21 @@ module _ (P : Protocol) (s : Schedule) where
     unfolding after statesAfter opened
     opens-as = getD-tabulate (s .n) _ i _ l
 
-    step-is : after P s (suc r) i ≡ nextState P s (suc r) (statesAfter P s r) i
+    pub step-is : after P s (suc r) i ≡ nextState P s (suc r) (statesAfter P s r) i
     unfolding after statesAfter played
     step-is = getD-tabulate (s .n) _ i _ l
 
     crashed-keeps : completes s (suc r) i ≡ false → after P s (suc r) i ≡ after P s r i
-    unfolding nextState after
+    unfolding nextState stateAfter after
     crashed-keeps c = step-is ∙ cond-false _ _ _ (and-no-left _ _ c)
 
     stopped-keeps : P .stopped (after P s r i) ≡ true → after P s (suc r) i ≡ after P s r i
-    unfolding nextState after
+    unfolding nextState stateAfter after
     stopped-keeps e = step-is ∙ cond-false _ _ _ (and-no-right (completes s (suc r) i) _ (ap not e))
 
     other-hears : completes s (suc r) i ≡ true → P .stopped (after P s r i) ≡ false
         → after P s (suc r) i ≡ P .hears (after P s r i) (rowOf P s (suc r) (statesAfter P s r) i)
-    unfolding nextState after
+    unfolding nextState stateAfter after
     other-hears c e = step-is ∙ cond-true _ _ _ (and-both _ _ c (ap not e))
 
     pub who-moves : WhoMoves P s r i

@@ -1,16 +1,17 @@
 -- Where nothing is sent in a round, nothing happens from there on: whoever completes the round has nothing to say, so it is stopped and keeps its
 -- state, and everybody else keeps it anyway; and whoever speaks in a later round would have completed this one. Assumes nothing.
 use mathlib.Core.Path.{_≡_, refl, sym, ap, _∙_}
-use mathlib.Core.Logic.{inl, inr, _≢_}
+use mathlib.Core.Logic.{inl, inr}
 use mathlib.Core.List.{List}
-use mathlib.Core.Bool.{true, cond}
+use mathlib.Core.Bool.{true, not, cond}
 use Prim.Native.Nat.{ℕ, zero, suc, _≤_, _<_}
 use native.Mathlib.Omega.{arith}
 use lib.Dec.{eqb}
 use lib.ListN.{length}
 use lib.Seq.{ext-getD}
 use borrow.Author.Tests.{eqb-true, eqb-false}
-use Rattle.laws.proofs.Test.{true-or-false, cond-true, cond-false}
+use Rattle.laws.specs.Below.{sum}
+use Rattle.laws.proofs.Test.{true-or-false, and-no-left, and-no-right, cond-true, cond-false}
 use Rattle.laws.proofs.Counting.{split}
 use Rattle.laws.proofs.Sums.{sum-zero, sum-none}
 use Rattle.laws.proofs.Lists.{length-tabulate}
@@ -19,27 +20,40 @@ use Rattle.member.specs.State.{undecided, stopped}
 use Rattle.member.specs.Saying.{nothing, estimateCode, decidedCode, says}
 use Rattle.schedule.specs.Schedule.{Schedule, crashOf}
 use Rattle.run.specs.Protocol.{Protocol, fcwfa}
-use Rattle.run.specs.Run.{completes, stateAt, nextState, played, opened, statesAfter, after}
+use Rattle.run.specs.Run.{completes, stateAt, stateAfter, nextState, played, opened, statesAfter, after}
 use Rattle.run.specs.Report.{sent, sentAfter}
 use Rattle.run.specs.Facts.{SilentFrom}
 use Rattle.run.proofs.Rounds.{completes-if, if-completes, completing, crashing, gone, part, what-is-sent, who-moves}
 use Rattle.run.proofs.RunWorld.{state-is}
 
 module _ (P : Protocol) (s : Schedule) (some : 0 < s .n) (mute : (m : P .State) → P .says m ≡ nothing → P .stopped m ≡ true) where
+  -- whoever completes a round in which nothing is sent has nothing to say
+  nothing-to-say : (r : ℕ) (states : List (P .State)) → sum (s .n) (sent P s r states) ≡ 0 → (i : ℕ) → i < s .n → completes s r i ≡ true
+      → P .says (stateAt P states i) ≡ nothing
+  nothing-to-say r states z i l c =
+      elim (true-or-false (eqb (P .says (stateAt P states i)) nothing)) [
+        | inl e ↦ eqb-true _ _ e
+        | inr e ↦
+            let adds = what-is-sent P s r states i .completing (eqb-false _ _ e) (record { process = l; completed = c }) in
+            let none = sum-none (s .n) (sent P s r states) z i l in
+            absurd (omega arith)
+      ]
+
+  -- so such a round leaves every state as it is
+  pub nothing-moves : (r : ℕ) (states : List (P .State)) → sum (s .n) (sent P s r states) ≡ 0 → (i : ℕ) → i < s .n → nextState P s r states i ≡ stateAt P states i
+  unfolding nextState stateAfter
+  nothing-moves r states z i l =
+      elim (true-or-false (completes s r i)) [
+        | inl c ↦ cond-false _ _ _ (and-no-right (completes s r i) _ (ap not (mute _ (nothing-to-say r states z i l c))))
+        | inr c ↦ cond-false _ _ _ (and-no-left _ _ c)
+      ]
+
   -- whoever completes the round that follows r rounds has nothing to say
   abbrev Silent : ℕ → Type 0
   Silent r = (i : ℕ) → i < s .n → completes s (suc r) i ≡ true → P .says (after P s r i) ≡ nothing
 
   nobody-speaks : (r : ℕ) → sentAfter P s r ≡ 0 → Silent r
-  nobody-speaks r z i l c =
-      elim (true-or-false (eqb (P .says (after P s r i)) nothing)) [
-        | inl e ↦ eqb-true _ _ e
-        | inr e ↦
-            let speaks : P .says (stateAt P (statesAfter P s r) i) ≢ nothing = λ q. eqb-false _ _ e (sym (ap (P .says) (state-is P s r i)) ∙ q) in
-            let adds = what-is-sent P s (suc r) (statesAfter P s r) i .completing speaks (record { process = l; completed = c }) in
-            let none = sum-none (s .n) (sent P s (suc r) (statesAfter P s r)) z i l in
-            absurd (omega arith)
-      ]
+  nobody-speaks r z i l c = sym (ap (P .says) (state-is P s r i)) ∙ nothing-to-say (suc r) (statesAfter P s r) z i l c
 
   module _ (r : ℕ) (h : Silent r) where
     keeps : (i : ℕ) → i < s .n → after P s (suc r) i ≡ after P s r i
@@ -76,7 +90,7 @@ module _ (P : Protocol) (s : Schedule) (some : 0 < s .n) (mute : (m : P .State) 
 
     states-same : statesAfter P s (suc r) ≡ statesAfter P s r
     states-same =
-        ext-getD (P .opening 0 0 0 0) _ _ (long (suc r) ∙ sym (long r))
+        ext-getD (P .nobody) _ _ (long (suc r) ∙ sym (long r))
         (λ i b. let e = long (suc r) in state-is P s (suc r) i ∙ keeps i (omega arith) ∙ sym (state-is P s r i))
 
   -- what holds after k rounds

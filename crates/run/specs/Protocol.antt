@@ -10,6 +10,8 @@ use Rattle.member.specs.Hearing.{hears}
 
 pub record Protocol : Type 1 where
   pub State : Type 0
+  -- what stands past the end of the states side by side
+  pub nobody : State
   -- the state of a member opened with n, t, its own number and its vote
   pub opening : ℕ → ℕ → ℕ → ℕ → State
   pub stopped : State → Bool
@@ -25,6 +27,7 @@ pub record Protocol : Type 1 where
 abbrev pub fcwfa : Protocol
 fcwfa = record {
   State = Member;
+  nobody = record { n = 0; t = 0; id = 0; round = 0; estimate = 0; decided = 0 };
   opening = opening;
   stopped = stopped;
   says = says;

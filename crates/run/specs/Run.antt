@@ -28,7 +28,12 @@ completes s r i = completesRound r (crashOf s i)
 
 -- the state at place i of the states side by side; every place below n holds one
 abbrev pub stateAt : (P : Protocol) → List (P .State) → ℕ → P .State
-stateAt P states i = getD states i (P .opening 0 0 0 0)
+stateAt P states i = getD states i (P .nobody)
+
+-- The state after round r of a process with crash round c, from its state and its row: "A process that completes the round hears its row, unless it
+-- is stopped. Every other keeps its state"
+unfoldable pub stateAfter : (P : Protocol) → ℕ → ℕ → P .State → List ℕ → P .State
+stateAfter P r c state row = cond (completesRound r c && not (P .stopped state)) (P .hears state row) state
 
 module _ (P : Protocol) (s : Schedule) where
   -- what process i hears from j in round r, of the states at its start
@@ -39,12 +44,9 @@ module _ (P : Protocol) (s : Schedule) where
   unfoldable pub rowOf : ℕ → List (P .State) → ℕ → List ℕ
   rowOf r states i = tabulate (s .n) (codeHeard r states i)
 
-  -- "A process that completes the round hears its row, unless it is stopped. Every other keeps its state"
+  -- the state of process i after round r, of the states at its start
   unfoldable pub nextState : ℕ → List (P .State) → ℕ → P .State
-  nextState r states i =
-      cond (completes s r i && not (P .stopped (stateAt P states i)))
-      (P .hears (stateAt P states i) (rowOf r states i))
-      (stateAt P states i)
+  nextState r states i = stateAfter P r (crashOf s i) (stateAt P states i) (rowOf r states i)
 
   -- round r of all processes: "All rows of a round come from the states at its start."
   unfoldable pub played : ℕ → List (P .State) → List (P .State)

@@ -65,11 +65,11 @@ module _ (s : Schedule) where
     unfolding processQuestion ask
     process-rules-question r = rw (le-leb (voteOf s i) 1 (r .vote), le-leb (crashOf s i) (s .t + 1) (r .crash), rules-reach-right r)
 
-  table-lengths : tablesLong s ≡ true → (length (s .votes) ≡ s .n) × ((length (s .crashes) ≡ s .n) × (length (s .reaches) ≡ s .n))
+  pub table-lengths : tablesLong s ≡ true → (length (s .votes) ≡ s .n) × (length (s .crashes) ≡ s .n) × (length (s .reaches) ≡ s .n)
   unfolding tablesLong
   table-lengths e =
       let others = and-right (eqb (length (s .votes)) (s .n)) _ e in
-      (eqb-true _ _ (and-left _ _ e), (eqb-true _ _ (and-left _ _ others), eqb-true _ _ (and-right (eqb (length (s .crashes)) (s .n)) _ others)))
+      (eqb-true _ _ (and-left _ _ e), eqb-true _ _ (and-left _ _ others), eqb-true _ _ (and-right (eqb (length (s .crashes)) (s .n)) _ others))
 
   module _ (limit : ℕ) (answers : Bool) where
     pub question-accepted : question s limit answers ≡ 0 → Accepted s limit answers
@@ -87,8 +87,8 @@ module _ (s : Schedule) where
           n-low = n-low;
           n-high = within-high _ _ _ (p1 .0);
           votes-long = long .0;
-          crashes-long = long .1 .0;
-          reaches-long = long .1 .1;
+          crashes-long = long .1;
+          reaches-long = long .2;
           answers-long = and-right (tablesLong s) _ (p3 .0);
           rules = record {
             t-low = within-low _ _ _ (p2 .0);

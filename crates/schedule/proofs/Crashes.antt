@@ -10,7 +10,7 @@ use borrow.Author.Tests.{eq-eqb, ne-eqb}
 use Rattle.laws.specs.Test.{within}
 use Rattle.laws.proofs.Test.{within-is, within-not-low}
 use Rattle.laws.proofs.Counting.{count-same}
-use Rattle.schedule.specs.Schedule.{Schedule, crashOf, crashCount, crashedBy}
+use Rattle.schedule.specs.Schedule.{Schedule, crashOf, crashesIn, crashCount, crashedBy}
 use Rattle.schedule.specs.Questions.{Rules}
 
 module _ (s : Schedule) (ok : Rules s) where
@@ -22,5 +22,5 @@ module _ (s : Schedule) (ok : Rules s) where
       ]
 
   pub all-crashes : crashedBy s (s .t + 1) ≡ crashCount s
-  unfolding crashedBy crashCount
+  unfolding crashedBy crashesIn
   all-crashes = count-same (s .n) (λ i. within 1 (crashOf s i) (s .t + 1)) (λ i. not (eqb (crashOf s i) 0)) counted-once

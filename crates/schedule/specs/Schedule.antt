@@ -15,9 +15,17 @@ pub record Schedule : Type 0 where
   pub crashes : List ℕ
   pub reaches : List ℕ
 
+-- the schedule of a call's arguments
+abbrev pub scheduleOf : ℕ → ℕ → List ℕ → List ℕ → List ℕ → Schedule
+scheduleOf n t votes crashes reaches = record { n = n; t = t; votes = votes; crashes = crashes; reaches = reaches }
+
 -- "A reach names the processes that get the message of the crash round; as a number, bit i − 1 stands for process i."
 unfoldable pub names : ℕ → ℕ → Bool
 names reach i = eqb (reach / 2 ^ i % 2) 1
+
+-- "f is the number of processes whose crash round isn't 0.": of the first n of a table of crash rounds
+unfoldable pub crashesIn : ℕ → List ℕ → ℕ
+crashesIn n crashes = count n (λ i. not (eqb (getD crashes i 0) 0))
 
 module _ (s : Schedule) where
   -- the vote, the crash round and the reach of the process at place i
@@ -30,9 +38,9 @@ module _ (s : Schedule) where
   abbrev pub reachOf : ℕ → ℕ
   reachOf i = getD (s .reaches) i 0
 
-  -- "f is the number of processes whose crash round isn't 0."
-  unfoldable pub crashCount : ℕ
-  crashCount = count (s .n) (λ i. not (eqb (crashOf i) 0))
+  -- the f of the schedule
+  abbrev pub crashCount : ℕ
+  crashCount = crashesIn (s .n) (s .crashes)
 
   -- how many processes have crash rounds from 1 to r
   unfoldable pub crashedBy : ℕ → ℕ

@@ -1,0 +1,98 @@
+// Acceptance of a schedule in tables (document 01, "Questions before work"): questions 1 to 7, which
+// come before any run.
+//
+// `question` gives the number of the first question whose answer is no, or 0, and serves calls that
+// take answer tables too; `accepts` answers for the three input tables alone. `crash_count` reads a
+// table of crash rounds, `is_named` a reach. Each of the four takes anything and answers what the
+// definitions of the crate `schedule` give; none has a `requires`.
+mod process;
+mod tables;
+
+ghost use mathlib.Core.Path.{_≡_};
+ghost use lib.ListN.{length};
+ghost use Rattle.member.specs.Opening.{largest};
+ghost use Rattle.schedule.specs.Schedule.{scheduleOf, names, crashesIn};
+ghost use Rattle.schedule.specs.Questions.{question as Questions·question};
+ghost use Rattle.acceptance.specs.Answers.{acceptanceIs, acceptAnswer};
+use crate::tables::are_tables_long;
+use crate::tables::processes_question;
+use laws::bit;
+use laws::is_within;
+
+// The largest n that is accepted.
+const LARGEST: usize = 32;
+
+// Every question is answered by yes, or the number of the first question whose answer is no.
+pub enum Acceptance {
+    Accepted,
+    Refused(u8),
+}
+
+// The number of processes whose crash round isn't 0.
+pub fn crash_count(crashes: &[u8]) -> usize
+    ensures counted { λ r. ⌜ r ≡ crashesIn (length (now (crashes .entry))) (now (crashes .entry)) ⌝ }
+{
+    let mut f: usize = 0;
+    let mut i: usize = 0;
+    while i < crashes.len() {
+        let crash = crashes[i];
+        f += bit(crash != 0) as usize;
+        i += 1;
+    }
+    f
+}
+
+// Whether the reach names the process at place i: bit i stands for process i + 1. There are 32 bits,
+// so nobody at a place above 31 is named.
+pub fn is_named(reach: u32, i: usize) -> bool
+    ensures tested { λ r. ⌜ r ≡ names reach i ⌝ }
+{
+    if 31 < i {
+        return false;
+    }
+    (reach >> (i as u32)) & 1 == 1
+}
+
+// The number of the first question of a schedule in tables whose answer is no, or 0. `answers` tells
+// whether the answer tables that the call takes are n long.
+pub fn question(
+    n: usize,
+    t: usize,
+    votes: &[u8],
+    crashes: &[u8],
+    reaches: &[u32],
+    answers: bool,
+) -> u8
+    ensures asked { λ r. ⌜ r ≡ Questions·question (scheduleOf n t (now (votes .entry)) (now (crashes .entry)) (now (reaches .entry))) largest answers ⌝ }
+{
+    if !is_within(4, n, LARGEST) {
+        return 1;
+    }
+    let below = n - 1;
+    if !is_within(3, t, below) {
+        return 2;
+    }
+    if !are_tables_long(n, votes.len(), crashes.len(), reaches.len(), answers) {
+        return 3;
+    }
+    let first = processes_question(n, t, votes, crashes, reaches);
+    if first != 0 {
+        return first;
+    }
+    let f = crash_count(crashes);
+    if t < f {
+        return 7;
+    }
+    0
+}
+
+// Acceptance alone: the call takes no answer tables.
+pub fn accepts(n: usize, t: usize, votes: &[u8], crashes: &[u8], reaches: &[u32]) -> Acceptance
+    ensures answered { λ r. ⌜ acceptanceIs r ≡ acceptAnswer largest (scheduleOf n t (now (votes .entry)) (now (crashes .entry)) (now (reaches .entry))) ⌝ }
+{
+    let number = question(n, t, votes, crashes, reaches, true);
+    if number != 0 {
+        return Acceptance::Refused(number);
+    }
+    Acceptance::Accepted
+}

@@ -1,0 +1,55 @@
+// The tables of a schedule: their lengths, and the questions of the processes in order.
+ghost use mathlib.Core.Path.{_≡_};
+ghost use mathlib.Core.Bool.{_&&_};
+ghost use Prim.Native.Nat.{_≤_, _<_};
+ghost use lib.ListN.{length};
+ghost use Rattle.laws.specs.Answer.{andThen, askEach};
+ghost use Rattle.member.specs.Opening.{largest};
+ghost use Rattle.schedule.specs.Schedule.{Schedule, scheduleOf};
+ghost use Rattle.schedule.specs.Questions.{tablesLong, processQuestion};
+use crate::process::process_question;
+
+// Whether the three tables, whose lengths are given, are n long, and the answer tables too.
+pub fn are_tables_long(
+    n: usize,
+    votes: usize,
+    crashes: usize,
+    reaches: usize,
+    answers: bool,
+) -> bool
+    ensures tested { λ r. ⌜ ((s : Schedule) → s .n ≡ n → length (s .votes) ≡ votes → length (s .crashes) ≡ crashes → length (s .reaches) ≡ reaches → r ≡ (tablesLong s && answers)) ⌝ }
+{
+    if votes != n {
+        return false;
+    }
+    if crashes != n {
+        return false;
+    }
+    if reaches != n {
+        return false;
+    }
+    answers
+}
+
+// The number found so far, or where that is 0, the next one.
+fn first_no(found: u8, next: u8) -> u8
+    ensures asked { λ r. ⌜ r ≡ andThen found next ⌝ }
+{
+    if found == 0 { next } else { found }
+}
+
+// The number of the first question of the processes in order whose answer is no, or 0.
+pub fn processes_question(n: usize, t: usize, votes: &[u8], crashes: &[u8], reaches: &[u32]) -> u8
+    requires sizes { ⌜ (t < n) × (n ≤ largest) ⌝ }
+    requires long { ⌜ (length (now votes) ≡ n) × (length (now crashes) ≡ n) × (length (now reaches) ≡ n) ⌝ }
+    ensures asked { λ r. ⌜ r ≡ askEach n (processQuestion (scheduleOf n t (now (votes .entry)) (now (crashes .entry)) (now (reaches .entry)))) ⌝ }
+{
+    let mut first: u8 = 0;
+    let mut i: usize = 0;
+    while i < n {
+        let next = process_question(n, t, i, votes[i], crashes[i], reaches[i]);
+        first = first_no(first, next);
+        i += 1;
+    }
+    first
+}

@@ -1,0 +1,63 @@
+-- What `simulate` answers, and what the two answer tables hold after the call.
+use Prim.Native.Nat.{ℕ}
+use mathlib.Core.Path.{_≡_}
+use mathlib.Core.List.{List}
+use mathlib.Core.Bool.{Bool, cond, _&&_}
+use lib.ListN.{length}
+use lib.Dec.{eqb}
+use Rattle.laws.specs.Answer.{Answer, accepted, refused, answer}
+use Rattle.schedule.specs.Schedule.{Schedule}
+use Rattle.schedule.specs.Questions.{question}
+use Rattle.run.specs.Protocol.{fcwfa}
+use Rattle.run.specs.Report.{Report, report}
+use Rattle.run.specs.Given.{GivenDemand3}
+use Rattle.simulator.specs.declared.Counts.{Counts}
+use Rattle.simulator.specs.declared.Simulated.{Simulated}
+use Rattle.simulator.specs.declared.Simulated.the-variants.{Completed, Refused}
+
+-- for each case of the answer's enum document 01's number and values; `tt` stands for nothing: a refusal gives its number only
+abbrev pub simulatedIs : Simulated → Answer Counts (Unit {0})
+simulatedIs (Completed counts) = accepted counts
+simulatedIs (Refused number) = refused number tt
+
+-- the counts of a report
+abbrev pub countsOf : Report → Counts
+countsOf given = record { f = given .f; first = given .first; last = given .last; messages = given .messages }
+
+-- "Each of the .. two answer tables n long?"
+unfoldable pub answersLong : ℕ → List ℕ → List ℕ → Bool
+answersLong n decisions rounds = eqb (length decisions) n && eqb (length rounds) n
+
+-- A call with a schedule and two answer tables: `limit` is the largest n that is accepted.
+module _ (limit : ℕ) (s : Schedule) (decisions rounds : List ℕ) where
+  -- the number of its first question whose answer is no, or 0
+  abbrev pub simulateQuestion : ℕ
+  simulateQuestion = question s limit (answersLong (s .n) decisions rounds)
+
+  unfoldable pub simulateAnswer : Answer Counts (Unit {0})
+  simulateAnswer = answer simulateQuestion (countsOf (report fcwfa s)) tt
+
+  -- a table after the call: what is given for it, or as it was lent if the call is refused
+  unfoldable pub tableAfter : List ℕ → List ℕ → List ℕ
+  tableAfter given lent = cond (eqb simulateQuestion 0) given lent
+
+  abbrev pub decisionsAfter : List ℕ
+  decisionsAfter = tableAfter (report fcwfa s .decisions) decisions
+
+  abbrev pub roundsAfter : List ℕ
+  roundsAfter = tableAfter (report fcwfa s .rounds) rounds
+
+-- what the call gave, as a report: its counts, and the two tables after it
+abbrev pub givenBy : Counts → List ℕ → List ℕ → Report
+givenBy counts decisions rounds = record {
+  f = counts .f;
+  first = counts .first;
+  last = counts .last;
+  messages = counts .messages;
+  decisions = decisions;
+  rounds = rounds;
+}
+
+-- Demand 3 of the answers as given: wherever the answer is one of counts, with those counts and the two tables after the call.
+pub record AnswersKeepDemand3 (s : Schedule) (r : Simulated) (decisions rounds : List ℕ) : Type 0 where
+  pub kept : (counts : Counts) → simulatedIs r ≡ accepted counts → GivenDemand3 s (givenBy counts decisions rounds)

@@ -1,0 +1,51 @@
+// What the bench gives: the tables of decisions and rounds, and the counts.
+ghost use mathlib.Core.Path.{_≡_};
+ghost use mathlib.Core.Bool.{cond};
+ghost use Prim.Native.Nat.{_≤_};
+ghost use lib.Dec.{eqb};
+ghost use lib.ListN.{length, getD};
+ghost use Rattle.laws.specs.Below.{tabulate};
+ghost use Rattle.schedule.specs.Schedule.{crashesIn};
+ghost use Rattle.run.specs.Protocol.{fcwfa};
+ghost use Rattle.run.specs.Report.{firstOf, lastOf, roundOf, decisionOf};
+use crate::Counts;
+use member::Member;
+
+// The decision of a member, 2 for none.
+fn decision(m: Member) -> u8
+    ensures is { λ r. ⌜ r ≡ cond (eqb (m .decided) 0) 2 (m .estimate) ⌝ }
+{
+    if m.decided == 0 { 2 } else { m.estimate }
+}
+
+// Fills the two tables from the states at the end of the run.
+pub fn fill(members: [Member; 32], decisions: &mut [u8], rounds: &mut [u8])
+    requires size { ⌜ (length (now decisions) ≤ 32) × (length (now rounds) ≡ length (now decisions)) ⌝ }
+    ensures decided { λ _. ⌜ now (decisions .exit) ≡ tabulate (length (now (decisions .entry))) (decisionOf fcwfa members) ⌝ }
+    ensures timed { λ _. ⌜ now (rounds .exit) ≡ tabulate (length (now (rounds .entry))) (roundOf fcwfa members) ⌝ }
+{
+    let mut i: usize = 0;
+    while i < decisions.len() {
+        let m = members[i];
+        decisions[i] = decision(m);
+        rounds[i] = m.decided;
+        i += 1;
+    }
+}
+
+// The counts, from the crash rounds, the decided rounds and the messages of the run.
+pub fn counts_of(crashes: &[u8], rounds: &[u8], messages: usize) -> Counts
+    ensures counted { λ r. ⌜ r ≡ record {
+      f = crashesIn (length (now (crashes .entry))) (now (crashes .entry));
+      first = firstOf (λ i. getD (now (rounds .entry)) i 0) (length (now (rounds .entry)));
+      last = lastOf (λ i. getD (now (rounds .entry)) i 0) (length (now (rounds .entry)));
+      messages = messages;
+    } ⌝ }
+{
+    Counts {
+        f: acceptance::crash_count(crashes),
+        first: deciders::first_decider(rounds),
+        last: deciders::last_round(rounds) as usize,
+        messages: messages,
+    }
+}

@@ -1,0 +1,56 @@
+// Runs a schedule given in tables to its end (document 01, "Who hears whom").
+//
+// `simulate` asks questions 1 to 7, opens a member for each process, plays the rounds, fills the two
+// answer tables and answers the counts. The members are run through the public `open`, `say` and
+// `hear` of the crate `member`, the code that a machine of the cluster runs; that none of these calls is
+// refused in a run is proved. It takes anything, and has no `requires`.
+mod answers;
+mod members;
+mod play;
+mod rows;
+
+ghost use mathlib.Core.Path.{_≡_};
+ghost use Rattle.member.specs.Opening.{largest};
+ghost use Rattle.schedule.specs.Schedule.{scheduleOf};
+ghost use Rattle.simulator.specs.Answers.{simulatedIs, simulateAnswer, decisionsAfter, roundsAfter, AnswersKeepDemand3};
+
+// The counts of the report.
+pub struct Counts {
+    pub f: usize,
+    pub first: usize,
+    pub last: usize,
+    pub messages: usize,
+}
+
+// The counts of the run, or the number of the first question whose answer is no.
+pub enum Simulated {
+    Completed(Counts),
+    Refused(u8),
+}
+
+// The run of the schedule of these tables: `decisions` and `rounds` get the decision of each process, 2
+// for none, and its round, 0 for none. A refused call leaves both as they were lent.
+pub fn simulate(
+    n: usize,
+    t: usize,
+    votes: &[u8],
+    crashes: &[u8],
+    reaches: &[u32],
+    decisions: &mut [u8],
+    rounds: &mut [u8],
+) -> Simulated
+    ensures answered { λ r. ⌜ simulatedIs r ≡ simulateAnswer largest (scheduleOf n t (now (votes .entry)) (now (crashes .entry)) (now (reaches .entry))) (now (decisions .entry)) (now (rounds .entry)) ⌝ }
+    ensures decisions_given { λ r. ⌜ now (decisions .exit) ≡ decisionsAfter largest (scheduleOf n t (now (votes .entry)) (now (crashes .entry)) (now (reaches .entry))) (now (decisions .entry)) (now (rounds .entry)) ⌝ }
+    ensures rounds_given { λ r. ⌜ now (rounds .exit) ≡ roundsAfter largest (scheduleOf n t (now (votes .entry)) (now (crashes .entry)) (now (reaches .entry))) (now (decisions .entry)) (now (rounds .entry)) ⌝ }
+    ensures demand_3 { λ r. ⌜ AnswersKeepDemand3 (scheduleOf n t (now (votes .entry)) (now (crashes .entry)) (now (reaches .entry))) r (now (decisions .exit)) (now (rounds .exit)) ⌝ }
+{
+    let answers = decisions.len() == n && rounds.len() == n;
+    let question = acceptance::question(n, t, votes, crashes, reaches, answers);
+    if question != 0 {
+        return Simulated::Refused(question);
+    }
+    let run = play::play(n, t, votes, crashes, reaches);
+    let members = run.members;
+    answers::fill(members, decisions, rounds);
+    Simulated::Completed(answers::counts_of(crashes, &rounds[..], run.messages))
+}

@@ -1,0 +1,70 @@
+// The rows of a round: what each process hears from each, as an array of rows.
+ghost use mathlib.Core.Path.{_≡_};
+ghost use mathlib.Core.List.{List, []};
+ghost use Prim.Native.Nat.{ℕ, _≤_, _<_};
+ghost use lib.ListN.{length, getD};
+ghost use Rattle.laws.specs.Filled.{Each, Filled};
+ghost use Rattle.delivery.specs.Receivers.{receiversOf, heardOf};
+
+// A row with nothing in it.
+pub fn empty_row() -> [u8; 32]
+    ensures long { λ r. ⌜ length r ≡ 32 ⌝ }
+{
+    [0u8; 32]
+}
+
+fn empty_grid() -> [[u8; 32]; 32]
+    ensures long { λ r. ⌜ length r ≡ 32 ⌝ }
+{
+    let row = empty_row();
+    [row; 32]
+}
+
+fn no_receivers() -> [u32; 32]
+    ensures long { λ r. ⌜ length r ≡ 32 ⌝ }
+{
+    [0u32; 32]
+}
+
+// The receivers of what each process says in the round.
+pub fn all_receivers(n: usize, round: u8, crashes: &[u8], reaches: &[u32]) -> [u32; 32]
+    requires size { ⌜ (n ≤ 32) × (length (now crashes) ≡ n) × (length (now reaches) ≡ n) ⌝ }
+    ensures sets { λ r. ⌜ Filled 0 32 n r (λ j. receiversOf 32 round (getD (now (crashes .entry)) j 0) (getD (now (reaches .entry)) j 0)) ⌝ }
+{
+    let mut to = no_receivers();
+    let mut j: usize = 0;
+    while j < n {
+        to[j] = delivery::receivers(round, crashes[j], reaches[j]);
+        j += 1;
+    }
+    to
+}
+
+// The row that the process at place `hearer` hears, of the codes that are said to these receivers.
+fn row_of(n: usize, hearer: usize, codes: [u8; 32], to: [u32; 32]) -> [u8; 32]
+    requires size { ⌜ n ≤ 32 ⌝ }
+    ensures heard { λ r. ⌜ Filled 0 32 n r (λ j. heardOf hearer (getD codes j 0) (getD to j 0)) ⌝ }
+{
+    let mut row = empty_row();
+    let mut j: usize = 0;
+    while j < n {
+        row[j] = delivery::heard_code(hearer, codes[j], to[j]);
+        j += 1;
+    }
+    row
+}
+
+// The rows of all processes.
+pub fn grid_of(n: usize, codes: [u8; 32], to: [u32; 32]) -> [[u8; 32]; 32]
+    requires size { ⌜ n ≤ 32 ⌝ }
+    ensures heard { λ r. ⌜ Each [] 32 n r (λ (i : ℕ) (row : List ℕ). Filled 0 32 n row (λ j. heardOf i (getD codes j 0) (getD to j 0))) ⌝ }
+{
+    let mut grid = empty_grid();
+    let mut i: usize = 0;
+    while i < n {
+        let row = row_of(n, i, codes, to);
+        grid[i] = row;
+        i += 1;
+    }
+    grid
+}
