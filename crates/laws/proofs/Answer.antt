@@ -1,7 +1,7 @@
 -- Questions that were passed, and the answer that follows. Assumes nothing.
 use mathlib.Core.Path.{_≡_, refl, sym, ap, _∙_}
 use mathlib.Core.Logic.{inl, inr}
-use mathlib.Core.Bool.{Bool, true, false}
+use mathlib.Core.Bool.{Bool, true, false, false≢true}
 use Prim.Native.Nat.{ℕ, zero, suc, _+_, _<_}
 use native.Mathlib.Numerals.{add-one}
 use native.Mathlib.Omega.{arith}
@@ -67,3 +67,11 @@ module _ {A B : Type 0} where
   -- a call whose questions come to 0 answers its value: whatever x is, it is not that of a refusal
   pub answered : (q : ℕ) (value : A) (back : B) → q ≡ 0 → (x : A) {a : Answer A B} → a ≡ answer q value back → valueOr x a ≡ value
   answered q value back z x e = ap (valueOr x) (e ∙ answer-accepted q value back z)
+
+  -- a refusal is no accepted answer
+  pub not-accepted : {number : ℕ} {back : B} {value : A} → refused number back ≡ accepted value → ⊥
+  not-accepted e = false≢true (ap isAccepted e)
+    where
+      isAccepted : Answer A B → Bool
+      isAccepted (accepted value) = true
+      isAccepted (refused number back) = false

@@ -1,12 +1,13 @@
 -- The reported f counts the crashes, and the reported tables hold what each process decides and in which round, and 2 and 0 for none. Assumes nothing.
 use mathlib.Core.Path.{_≡_, sym, ap, _∙_}
-use mathlib.Core.Logic.{_≢_}
-use Prim.Native.Nat.{ℕ, suc, _≤_, _<_}
+use mathlib.Core.Logic.{inl, inr, _≢_}
+use Prim.Native.Nat.{ℕ, suc, _+_, _≤_, _<_}
 use native.Mathlib.Omega.{arith}
 use lib.Dec.{eqb}
-use lib.ListN.{getD}
+use lib.ListN.{length, getD, List·getD-eq-default}
 use borrow.Author.Tests.{eq-eqb, ne-eqb}
 use Rattle.laws.proofs.Test.{cond-true, cond-false}
+use Rattle.laws.proofs.Counting.{split}
 use Rattle.laws.proofs.Lists.{length-tabulate, getD-tabulate}
 use Rattle.schedule.specs.Schedule.{Schedule}
 use Rattle.schedule.specs.Questions.{Rules}
@@ -15,9 +16,26 @@ use Rattle.run.specs.Protocol.{fcwfa}
 use Rattle.run.specs.Run.{stateAt, final}
 use Rattle.run.specs.Report.{roundOf, decisionOf, report}
 use Rattle.run.specs.Facts.{Reported}
+use Rattle.run.proofs.Rounds.{states-long}
 use Rattle.run.proofs.States.{bits}
 use Rattle.run.proofs.FcwfaRun.{runWorld, laws}
 use Rattle.run.proofs.Demand.{end-is}
+
+-- the table of rounds, read at any place, even past its end
+module _ (s : Schedule) where
+  final-long : length (final fcwfa s) ≡ s .n
+  unfolding final
+  final-long = states-long fcwfa s (s .t + 1)
+
+  pub rounds-read : (i : ℕ) → getD (report fcwfa s .rounds) i 0 ≡ roundOf fcwfa (final fcwfa s) i
+  rounds-read i =
+      elim (split (s .n) i) [
+        | inl a ↦
+            let e = length-tabulate (s .n) (roundOf fcwfa (final fcwfa s)) in
+            let f = final-long in
+            List·getD-eq-default (report fcwfa s .rounds) 0 (omega arith) ∙ sym (ap (fcwfa .decided) (List·getD-eq-default (final fcwfa s) (fcwfa .nobody) (omega arith)))
+        | inr a ↦ getD-tabulate (s .n) (roundOf fcwfa (final fcwfa s)) i 0 a
+      ]
 
 module _ (s : Schedule) (ok : Rules s) where
   abbrev ended : ℕ → ℕ
@@ -27,7 +45,7 @@ module _ (s : Schedule) (ok : Rules s) where
   value i = stateAt fcwfa (final fcwfa s) i .estimate
 
   round-at : (i : ℕ) → i < s .n → getD (report fcwfa s .rounds) i 0 ≡ ended i
-  round-at i l = getD-tabulate (s .n) ended i 0 l
+  round-at i l = rounds-read s i
 
   decided-at : (i : ℕ) → i < s .n → ended i ≢ 0 → getD (report fcwfa s .decisions) i 2 ≡ value i
   unfolding decisionOf

@@ -4,14 +4,15 @@ use mathlib.Core.Path.{_≡_, ap, _∙_}
 use mathlib.Core.Logic.{_⊎_, inl, inr, _≢_}
 use mathlib.Core.List.{List}
 use mathlib.Core.Bool.{true, false, not}
-use Prim.Native.Nat.{ℕ, suc, _+_, _≤_, _<_}
+use Prim.Native.Nat.{ℕ, zero, suc, _+_, _≤_, _<_}
 use native.Mathlib.Omega.{arith}
 use lib.Dec.{eqb}
 use lib.Count.{ones}
+use lib.ListN.{length}
 use borrow.Author.Tests.{eqb-true, eqb-false, eq-eqb, ne-eqb, ltb-true, lt-ltb, le-ltb}
 use Rattle.laws.proofs.Test.{true-or-false, and-both, and-no-left, and-no-right, or-left, or-right, or-true, or-neither, cond-true, cond-false}
 use Rattle.laws.proofs.Counting.{split}
-use Rattle.laws.proofs.Lists.{getD-tabulate}
+use Rattle.laws.proofs.Lists.{length-tabulate, getD-tabulate}
 use Rattle.member.specs.Saying.{nothing}
 use Rattle.schedule.specs.Schedule.{Schedule, names, voteOf, crashOf, reachOf}
 use Rattle.run.specs.Protocol.{Protocol}
@@ -120,6 +121,26 @@ module _ (P : Protocol) (s : Schedule) where
           ];
     }
 
+  -- one round, whatever the states at its start
+  module _ (r : ℕ) (states : List (P .State)) (i : ℕ) where
+    pub crashed-stays : completes s r i ≡ false → nextState P s r states i ≡ stateAt P states i
+    unfolding nextState stateAfter
+    crashed-stays c = cond-false _ _ _ (and-no-left _ _ c)
+
+    pub stopped-stays : P .stopped (stateAt P states i) ≡ true → nextState P s r states i ≡ stateAt P states i
+    unfolding nextState stateAfter
+    stopped-stays e = cond-false _ _ _ (and-no-right (completes s r i) _ (ap not e))
+
+    other-moves : completes s r i ≡ true → P .stopped (stateAt P states i) ≡ false → nextState P s r states i ≡ P .hears (stateAt P states i) (rowOf P s r states i)
+    unfolding nextState stateAfter
+    other-moves c e = cond-true _ _ _ (and-both _ _ c (ap not e))
+
+  -- there is a state for each process
+  pub states-long : (r : ℕ) → length (statesAfter P s r) ≡ s .n
+  unfolding statesAfter opened played
+  states-long zero = length-tabulate (s .n) _
+  states-long (suc r) = length-tabulate (s .n) _
+
   module _ (r i : ℕ) (l : i < s .n) where
     opens-as : after P s 0 i ≡ P .opening (s .n) (s .t) (i + 1) (voteOf s i)
     unfolding after statesAfter opened
@@ -130,17 +151,17 @@ module _ (P : Protocol) (s : Schedule) where
     step-is = getD-tabulate (s .n) _ i _ l
 
     crashed-keeps : completes s (suc r) i ≡ false → after P s (suc r) i ≡ after P s r i
-    unfolding nextState stateAfter after
-    crashed-keeps c = step-is ∙ cond-false _ _ _ (and-no-left _ _ c)
+    unfolding after
+    crashed-keeps c = step-is ∙ crashed-stays (suc r) (statesAfter P s r) i c
 
     stopped-keeps : P .stopped (after P s r i) ≡ true → after P s (suc r) i ≡ after P s r i
-    unfolding nextState stateAfter after
-    stopped-keeps e = step-is ∙ cond-false _ _ _ (and-no-right (completes s (suc r) i) _ (ap not e))
+    unfolding after
+    stopped-keeps e = step-is ∙ stopped-stays (suc r) (statesAfter P s r) i e
 
     other-hears : completes s (suc r) i ≡ true → P .stopped (after P s r i) ≡ false
         → after P s (suc r) i ≡ P .hears (after P s r i) (rowOf P s (suc r) (statesAfter P s r) i)
-    unfolding nextState stateAfter after
-    other-hears c e = step-is ∙ cond-true _ _ _ (and-both _ _ c (ap not e))
+    unfolding after
+    other-hears c e = step-is ∙ other-moves (suc r) (statesAfter P s r) i c e
 
     pub who-moves : WhoMoves P s r i
     who-moves = record {

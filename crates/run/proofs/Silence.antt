@@ -3,27 +3,25 @@
 use mathlib.Core.Path.{_≡_, refl, sym, ap, _∙_}
 use mathlib.Core.Logic.{inl, inr}
 use mathlib.Core.List.{List}
-use mathlib.Core.Bool.{true, not, cond}
+use mathlib.Core.Bool.{true, cond}
 use Prim.Native.Nat.{ℕ, zero, suc, _≤_, _<_}
 use native.Mathlib.Omega.{arith}
 use lib.Dec.{eqb}
-use lib.ListN.{length}
 use lib.Seq.{ext-getD}
 use borrow.Author.Tests.{eqb-true, eqb-false}
 use Rattle.laws.specs.Below.{sum}
-use Rattle.laws.proofs.Test.{true-or-false, and-no-left, and-no-right, cond-true, cond-false}
+use Rattle.laws.proofs.Test.{true-or-false, cond-true, cond-false}
 use Rattle.laws.proofs.Counting.{split}
 use Rattle.laws.proofs.Sums.{sum-zero, sum-none}
-use Rattle.laws.proofs.Lists.{length-tabulate}
 use Rattle.member.specs.declared.Member.{Member}
 use Rattle.member.specs.State.{undecided, stopped}
 use Rattle.member.specs.Saying.{nothing, estimateCode, decidedCode, says}
 use Rattle.schedule.specs.Schedule.{Schedule, crashOf}
 use Rattle.run.specs.Protocol.{Protocol, fcwfa}
-use Rattle.run.specs.Run.{completes, stateAt, stateAfter, nextState, played, opened, statesAfter, after}
+use Rattle.run.specs.Run.{completes, stateAt, nextState, statesAfter, after}
 use Rattle.run.specs.Report.{sent, sentAfter}
 use Rattle.run.specs.Facts.{SilentFrom}
-use Rattle.run.proofs.Rounds.{completes-if, if-completes, completing, crashing, gone, part, what-is-sent, who-moves}
+use Rattle.run.proofs.Rounds.{completes-if, if-completes, completing, crashing, gone, part, what-is-sent, crashed-stays, stopped-stays, states-long, who-moves}
 use Rattle.run.proofs.RunWorld.{state-is}
 
 module _ (P : Protocol) (s : Schedule) (some : 0 < s .n) (mute : (m : P .State) → P .says m ≡ nothing → P .stopped m ≡ true) where
@@ -41,11 +39,10 @@ module _ (P : Protocol) (s : Schedule) (some : 0 < s .n) (mute : (m : P .State) 
 
   -- so such a round leaves every state as it is
   pub nothing-moves : (r : ℕ) (states : List (P .State)) → sum (s .n) (sent P s r states) ≡ 0 → (i : ℕ) → i < s .n → nextState P s r states i ≡ stateAt P states i
-  unfolding nextState stateAfter
   nothing-moves r states z i l =
       elim (true-or-false (completes s r i)) [
-        | inl c ↦ cond-false _ _ _ (and-no-right (completes s r i) _ (ap not (mute _ (nothing-to-say r states z i l c))))
-        | inr c ↦ cond-false _ _ _ (and-no-left _ _ c)
+        | inl c ↦ stopped-stays P s r states i (mute _ (nothing-to-say r states z i l c))
+        | inr c ↦ crashed-stays P s r states i c
       ]
 
   -- whoever completes the round that follows r rounds has nothing to say
@@ -83,15 +80,10 @@ module _ (P : Protocol) (s : Schedule) (some : 0 < s .n) (mute : (m : P .State) 
           | gone lo hi ↦ facts .silent lo hi
         ])
 
-    long : (q : ℕ) → length (statesAfter P s q) ≡ s .n
-    unfolding statesAfter opened played
-    long zero = length-tabulate (s .n) _
-    long (suc q) = length-tabulate (s .n) _
-
     states-same : statesAfter P s (suc r) ≡ statesAfter P s r
     states-same =
-        ext-getD (P .nobody) _ _ (long (suc r) ∙ sym (long r))
-        (λ i b. let e = long (suc r) in state-is P s (suc r) i ∙ keeps i (omega arith) ∙ sym (state-is P s r i))
+        ext-getD (P .nobody) _ _ (states-long P s (suc r) ∙ sym (states-long P s r))
+        (λ i b. let e = states-long P s (suc r) in state-is P s (suc r) i ∙ keeps i (omega arith) ∙ sym (state-is P s r i))
 
   -- what holds after k rounds
   record Since (r k : ℕ) : Type 0 where

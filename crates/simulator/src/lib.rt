@@ -44,7 +44,7 @@ pub fn simulate(
     ensures rounds_given { λ r. ⌜ now (rounds .exit) ≡ roundsAfter largest (scheduleOf n t (now (votes .entry)) (now (crashes .entry)) (now (reaches .entry))) (now (decisions .entry)) (now (rounds .entry)) ⌝ }
     ensures demand_3 { λ r. ⌜ AnswersKeepDemand3 (scheduleOf n t (now (votes .entry)) (now (crashes .entry)) (now (reaches .entry))) r (now (decisions .exit)) (now (rounds .exit)) ⌝ }
 {
-    let answers = decisions.len() == n && rounds.len() == n;
+    let answers = answers::are_long(n, decisions.len(), rounds.len());
     let question = acceptance::question(n, t, votes, crashes, reaches, answers);
     if question != 0 {
         return Simulated::Refused(question);

@@ -1,62 +1,95 @@
+-- `fill` meets its contract: each turn stores the decision and the round of one process. Assumes nothing.
+use mathlib.Core.Path.{refl, sym, _∙_}
+use Prim.Native.Nat.{_-_, _≤_}
+use native.Mathlib.Omega.{arith}
+use borrow.Author.Needs.{needs}
+use lib.ListN.{length}
+use Rattle.laws.specs.Filled.{Filled}
+use Rattle.laws.proofs.Filled.{each-none, each-more, each-all, filled-list}
+use Rattle.run.specs.Protocol.{fcwfa}
+use Rattle.run.specs.Report.{roundOf, decisionOf}
 use Rattle.simulator.proofs.answers.fill.Statement.{statement}
 use Rattle.simulator.proofs.answers.fill.Tie as tie
-use Rattle.simulator.proofs.answers.fill.Reads as reads
-use Rattle.simulator.proofs.answers.fill.Lts as lts
-use Rattle.simulator.proofs.answers.decision.Reads as decision-reads
 
 abbrev Inv-loop : tie.InvT-loop
-Inv-loop decisions₀ rounds₀ members i₀ decisions rounds i = ?
+Inv-loop decisions₀ rounds₀ members i₀ decisions rounds i =
+    (i ≤ length decisions₀)
+    × Filled 0 (length decisions₀) i decisions (decisionOf fcwfa members)
+    × Filled 0 (length decisions₀) i rounds (roundOf fcwfa members)
 
 abbrev μ-loop : tie.MeasureT-loop
-μ-loop decisions₀ rounds₀ members i₀ decisions rounds i = ?
+μ-loop decisions₀ rounds₀ members i₀ decisions rounds i = length decisions₀ - i
 
--- src/answers.rt:28:5
 loop-holds : tie.Need-loop-holds Inv-loop μ-loop
-loop-holds c = ?
+loop-holds c = (omega arith, each-none refl, each-none (c .before .before .pre .1))
 
--- src/answers.rt:29:17
 mul-m : tie.Need-mul-m Inv-loop μ-loop
-mul-m c = ?
+mul-m c =
+    let inv = c .before .loop .inv in
+    let decisions-long = inv .1 .long in
+    let rounds-long = inv .2 .long in
+    omega arith
 
--- src/answers.rt:29:17
 array-copy-out-m : tie.Need-array-copy-out-m Inv-loop μ-loop
-array-copy-out-m c = ?
+array-copy-out-m c =
+    let inv = c .before .loop .inv in
+    let decisions-long = inv .1 .long in
+    let rounds-long = inv .2 .long in
+    omega arith
 
--- src/answers.rt:30:24
 decision-requires : tie.Need-decision-requires Inv-loop μ-loop
-decision-requires c κs = ?
+decision-requires c κs = search needs
 
--- src/answers.rt:30:9
 slice-write-decisions : tie.Need-slice-write-decisions Inv-loop μ-loop
-slice-write-decisions c = ?
+slice-write-decisions c =
+    let inv = c .before .before .before .loop .inv in
+    let decisions-long = inv .1 .long in
+    let rounds-long = inv .2 .long in
+    omega arith
 
--- src/answers.rt:31:9
 slice-write-rounds : tie.Need-slice-write-rounds Inv-loop μ-loop
-slice-write-rounds c = ?
+slice-write-rounds c =
+    let inv = c .before .before .before .loop .inv in
+    let decisions-long = inv .1 .long in
+    let rounds-long = inv .2 .long in
+    omega arith
 
--- src/answers.rt:32:9
 add-i : tie.Need-add-i Inv-loop μ-loop
-add-i c = ?
+add-i c =
+    let inv = c .before .before .before .loop .inv in
+    let decisions-long = inv .1 .long in
+    let rounds-long = inv .2 .long in
+    omega arith
 
--- src/answers.rt:28:5
 loop-less : tie.Need-loop-less Inv-loop μ-loop
-loop-less c = ?
+loop-less c =
+    let inv = c .before .before .before .loop .inv in
+    let decisions-long = inv .1 .long in
+    let rounds-long = inv .2 .long in
+    omega arith
 
--- src/answers.rt:28:5
 loop-again : tie.Need-loop-again Inv-loop μ-loop
-loop-again c = ?
+unfolding decisionOf
+loop-again c =
+    let inv = c .before .before .before .loop .inv in
+    let decisions-long = inv .1 .long in
+    let rounds-long = inv .2 .long in
+    (omega arith, each-more (omega arith) (inv .1) (c .decision .ensures), each-more (omega arith) (inv .2) refl)
 
--- src/answers.rt:22:1
 same-length : tie.Need-same-length Inv-loop μ-loop
-same-length c = ?
+same-length c = c .before .loop .inv .1 .long
 
--- src/answers.rt:22:1
 same-length-2 : tie.Need-same-length-2 Inv-loop μ-loop
-same-length-2 c = ?
+same-length-2 c = c .before .loop .inv .2 .long ∙ sym (c .before .before .before .before .pre .1)
 
--- src/answers.rt:22:1
 returns : tie.Need-returns Inv-loop μ-loop
-returns c = ?
+returns c =
+    let inv = c .before .loop .inv in
+    let decisions-long = inv .1 .long in
+    let rounds-long = inv .2 .long in (
+      filled-list decisions-long (each-all (omega arith) (inv .1)),
+      filled-list (rounds-long ∙ sym (c .before .before .before .before .pre .1)) (each-all (omega arith) (inv .2)),
+    )
 
 pub fill-spec : {M : Type 1} → statement M
 fill-spec =
