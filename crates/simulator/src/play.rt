@@ -18,8 +18,9 @@ use crate::members::code_said;
 use crate::members::start_all;
 use crate::members::state_heard;
 use crate::rows::all_receivers;
+use crate::rows::empty_grid;
 use crate::rows::empty_row;
-use crate::rows::grid_of;
+use crate::rows::fill_grid;
 use member::Member;
 
 // The codes that the members say.
@@ -75,14 +76,14 @@ fn hear_rows(
     round: u8,
     members: [Member; 32],
     codes: [u8; 32],
-    grid: [[u8; 32]; 32],
+    grid: &[[u8; 32]],
     crashes: &[u8],
 ) -> [Member; 32]
     requires size { ⌜ (n ≤ 32) × (length (now crashes) ≡ n) × (length members ≡ 32) ⌝ }
-    requires long { ⌜ Each [] 32 n grid (λ _ row. length row ≡ 32) ⌝ }
+    requires long { ⌜ Each [] 32 n (now grid) (λ _ row. length row ≡ 32) ⌝ }
     requires said { ⌜ Said n codes members ⌝ }
-    requires listen { ⌜ AllListen n round (now crashes) members (λ i. take n (getD grid i [])) ⌝ }
-    ensures next { λ r. ⌜ Filled nobody 32 n r (λ i. stateAfter fcwfa round (getD (now (crashes .entry)) i 0) (stateAt fcwfa members i) (take n (getD grid i []))) ⌝ }
+    requires listen { ⌜ AllListen n round (now crashes) members (λ i. take n (getD (now grid) i [])) ⌝ }
+    ensures next { λ r. ⌜ Filled nobody 32 n r (λ i. stateAfter fcwfa round (getD (now (crashes .entry)) i 0) (stateAt fcwfa members i) (take n (getD (now (grid .entry)) i []))) ⌝ }
 {
     let mut next = members;
     let mut i: usize = 0;
@@ -120,8 +121,9 @@ fn play_round(n: usize, round: u8, members: [Member; 32], crashes: &[u8], reache
         };
     }
     let to = all_receivers(n, round, crashes, reaches);
-    let grid = grid_of(n, codes, to);
-    let next = hear_rows(n, round, members, codes, grid, crashes);
+    let mut grid = empty_grid();
+    fill_grid(n, codes, to, &mut grid[..]);
+    let next = hear_rows(n, round, members, codes, &grid[..], crashes);
     Played {
         members: next,
         messages: messages,

@@ -13,7 +13,7 @@ pub fn empty_row() -> [u8; 32]
     [0u8; 32]
 }
 
-fn empty_grid() -> [[u8; 32]; 32]
+pub fn empty_grid() -> [[u8; 32]; 32]
     ensures long { λ r. ⌜ length r ≡ 32 ⌝ }
 {
     let row = empty_row();
@@ -54,17 +54,15 @@ fn row_of(n: usize, hearer: usize, codes: [u8; 32], to: [u32; 32]) -> [u8; 32]
     row
 }
 
-// The rows of all processes.
-pub fn grid_of(n: usize, codes: [u8; 32], to: [u32; 32]) -> [[u8; 32]; 32]
-    requires size { ⌜ n ≤ 32 ⌝ }
-    ensures heard { λ r. ⌜ Each [] 32 n r (λ (i : ℕ) (row : List ℕ). Filled 0 32 n row (λ j. heardOf i (getD codes j 0) (getD to j 0))) ⌝ }
+// Stores the rows of all processes, each at the place of its process.
+pub fn fill_grid(n: usize, codes: [u8; 32], to: [u32; 32], grid: &mut [[u8; 32]])
+    requires size { ⌜ (n ≤ 32) × (length (now grid) ≡ 32) ⌝ }
+    ensures heard { λ _. ⌜ Each [] 32 n (now (grid .exit)) (λ (i : ℕ) (row : List ℕ). Filled 0 32 n row (λ j. heardOf i (getD codes j 0) (getD to j 0))) ⌝ }
 {
-    let mut grid = empty_grid();
     let mut i: usize = 0;
     while i < n {
         let row = row_of(n, i, codes, to);
         grid[i] = row;
         i += 1;
     }
-    grid
 }

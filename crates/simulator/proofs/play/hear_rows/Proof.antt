@@ -15,10 +15,10 @@ use Rattle.simulator.proofs.play.hear_rows.Statement.{statement}
 use Rattle.simulator.proofs.play.hear_rows.Tie as tie
 
 abbrev Inv-loop : tie.InvT-loop
-Inv-loop n round crashes members codes grid next₀ i₀ next i = (i ≤ n) × Filled nobody 32 i next (λ k. stateAfter fcwfa round (getD crashes k 0) (stateAt fcwfa members k) (take n (getD grid k [])))
+Inv-loop n round grid crashes members codes next₀ i₀ next i = (i ≤ n) × Filled nobody 32 i next (λ k. stateAfter fcwfa round (getD crashes k 0) (stateAt fcwfa members k) (take n (getD grid k [])))
 
 abbrev μ-loop : tie.MeasureT-loop
-μ-loop n round crashes members codes grid next₀ i₀ next i = n - i
+μ-loop n round grid crashes members codes next₀ i₀ next i = n - i
 
 loop-holds : tie.Need-loop-holds Inv-loop μ-loop
 loop-holds c = (omega arith, each-none (c .before .pre .0 .2))
@@ -32,8 +32,8 @@ array-copy-out-m c = omega arith
 mul-row : tie.Need-mul-row Inv-loop μ-loop
 mul-row c = omega arith
 
-array-copy-out-row : tie.Need-array-copy-out-row Inv-loop μ-loop
-array-copy-out-row c = omega arith
+shared-slice-copy-out-row : tie.Need-shared-slice-copy-out-row Inv-loop μ-loop
+shared-slice-copy-out-row c = let long = c .before .before .before .before .pre .1 .0 .long in omega arith
 
 shared-slice-read-next-state : tie.Need-shared-slice-read-next-state Inv-loop μ-loop
 shared-slice-read-next-state c = omega arith
@@ -86,7 +86,7 @@ hear-rows-spec =
     mul-m
     array-copy-out-m
     mul-row
-    array-copy-out-row
+    shared-slice-copy-out-row
     shared-slice-read-next-state
     array-read-next-state
     array-share-prefix-row

@@ -25,16 +25,25 @@ returns c =
 all-receivers-requires : tie.Need-all-receivers-requires
 all-receivers-requires c κs = search needs
 
-grid-of-requires : tie.Need-grid-of-requires
-grid-of-requires c κs = search needs
+empty-grid-requires : tie.Need-empty-grid-requires
+empty-grid-requires c κs = search needs
+
+slice-aggregate-fill-grid : tie.Need-slice-aggregate-fill-grid
+slice-aggregate-fill-grid c = search needs
+
+fill-grid-requires : tie.Need-fill-grid-requires
+fill-grid-requires c κs = search needs
+
+slice-aggregate-hear-rows : tie.Need-slice-aggregate-hear-rows
+slice-aggregate-hear-rows c = search needs
 
 hear-rows-requires : tie.Need-hear-rows-requires
 hear-rows-requires c κs =
-    let a = c .before .before .before .before .before .before .before .args in
-    let pre = c .before .before .before .before .before .before .before .pre in
-    let said = c .before .before .before .before .codes-said .ensures in
-    let sets = c .before .all-receivers .ensures in
-    let rows = c .grid-of .ensures in (
+    let a = c .before .before .before .before .before .before .before .before .before .before .before .args in
+    let pre = c .before .before .before .before .before .before .before .before .before .before .before .pre in
+    let said = c .before .before .before .before .before .before .before .before .codes-said .ensures in
+    let sets = c .before .before .before .before .before .all-receivers .ensures in
+    let rows = c .before .before .fill-grid .ensures in (
       (omega arith, omega arith, omega arith),
       (
         rows-long (a .n) (a .round) (now (a .crashes)) (now (a .reaches)) (a .members) said (omega arith) sets rows,
@@ -44,11 +53,11 @@ hear-rows-requires c κs =
 
 returns-2 : tie.Need-returns-2
 returns-2 c =
-    let a = c .before .before .before .before .before .before .before .before .args in
-    let said = c .before .before .before .before .before .codes-said .ensures in
-    let sent = c .before .before .before .before .messages-sent .ensures in (
-      next-is (a .n) (a .round) (now (a .crashes)) (now (a .reaches)) (a .members) said (omega arith) (c .before .before .all-receivers .ensures)
-          (c .before .grid-of .ensures) (c .hear-rows .ensures),
+    let a = c .before .before .before .before .before .before .before .before .before .before .before .before .args in
+    let said = c .before .before .before .before .before .before .before .before .before .codes-said .ensures in
+    let sent = c .before .before .before .before .before .before .before .before .messages-sent .ensures in (
+      next-is (a .n) (a .round) (now (a .crashes)) (now (a .reaches)) (a .members) said (omega arith) (c .before .before .before .before .before .before .all-receivers .ensures)
+          (c .before .before .before .fill-grid .ensures) (c .hear-rows .ensures),
       (sent-is (a .n) (a .round) (now (a .crashes)) (now (a .reaches)) (a .members) said (sent .0), sent .1),
     )
 
@@ -60,6 +69,9 @@ play-round-spec =
     messages-sent-requires
     returns
     all-receivers-requires
-    grid-of-requires
+    empty-grid-requires
+    slice-aggregate-fill-grid
+    fill-grid-requires
+    slice-aggregate-hear-rows
     hear-rows-requires
     returns-2)
