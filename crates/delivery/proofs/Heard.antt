@@ -1,18 +1,19 @@
 -- What is heard of a message to its receivers is what is delivered: the set of every process has each of its bits, the reach those of the processes
 -- that it names, and the empty set none. Assumes nothing.
-use mathlib.Core.Path.{_≡_, refl, sym, ap, _∙_}
+use mathlib.Core.Path.{_≡_, sym, ap, _∙_}
 use mathlib.Core.Logic.{inl, inr}
-use mathlib.Core.Bool.{Bool, true, false, cond, _&&_, _||_}
-use Prim.Native.Nat.{ℕ, suc, _+_, _-_, _*_, _/_, _%_, _^_, _<_}
+use mathlib.Core.Bool.{Bool, true, false, cond, _&&_}
+use Prim.Native.Nat.{ℕ, suc, _+_, _-_, _/_, _%_, _^_, _<_}
 use native.Mathlib.Nat.{zero-div}
 use native.Mathlib.Omega.{arith}
 use lib.Dec.{eqb}
 use lib.Pow.{ones-split, ones-lt, high, low}
-use borrow.Author.Tests.{eq-eqb}
-use Rattle.laws.proofs.Test.{true-or-false, and-goes-on, and-no-left, or-left, or-goes-on, cond-true, cond-false}
+use borrow.Author.Tests.{eqb-true, eqb-false, eq-eqb}
+use Rattle.laws.proofs.Test.{true-or-false, and-goes-on, and-no-left, or-left, or-goes-on, or-neither}
 use Rattle.member.specs.Saying.{nothing}
 use Rattle.schedule.specs.Schedule.{names}
 use Rattle.run.specs.Run.{completesRound, isHeard, delivered}
+use Rattle.delivery.proofs.Sets.{completing, crashing, crashed}
 use Rattle.delivery.specs.Receivers.{receiversOf, heardOf, HeardIsDelivered}
 
 -- the set of all has the bit of each process
@@ -33,25 +34,25 @@ none-named i = ap (λ (x : ℕ). eqb (x % 2) 1) (zero-div (2 ^ i))
 
 module _ (width r i c reach : ℕ) (l : i < width) where
   named : names (receiversOf width r c reach) i ≡ isHeard r i c reach
-  unfolding receiversOf isHeard
+  unfolding isHeard
   named =
       elim (true-or-false (completesRound r c)) [
         | inl e ↦
-            ap (λ (x : ℕ). names x i) (cond-true (completesRound r c) (2 ^ width - 1) _ e)
+            ap (λ (x : ℕ). names x i) (completing width r c reach e)
             ∙ all-named width i l
             ∙ sym (or-left (completesRound r c) (eqb c r && names reach i) e)
         | inr e ↦
-            ap (λ (x : ℕ). names x i) (cond-false (completesRound r c) (2 ^ width - 1) (cond (eqb c r) reach 0) e)
-            ∙ crashing
-            ∙ or-goes-on (completesRound r c) (eqb c r && names reach i) e
+            elim (true-or-false (eqb c r)) [
+              | inl q ↦
+                  ap (λ (x : ℕ). names x i) (crashing width r c reach e (eqb-true c r q))
+                  ∙ and-goes-on (eqb c r) (names reach i) q
+                  ∙ or-goes-on (completesRound r c) _ e
+              | inr q ↦
+                  ap (λ (x : ℕ). names x i) (crashed width r c reach e (eqb-false c r q))
+                  ∙ none-named i
+                  ∙ sym (or-neither (completesRound r c) _ e (and-no-left (eqb c r) (names reach i) q))
+            ]
       ]
-    where
-      crashing : names (cond (eqb c r) reach 0) i ≡ (eqb c r && names reach i)
-      crashing =
-          elim (true-or-false (eqb c r)) [
-            | inl q ↦ ap (λ (x : ℕ). names x i) (cond-true (eqb c r) reach 0 q) ∙ and-goes-on (eqb c r) (names reach i) q
-            | inr q ↦ ap (λ (x : ℕ). names x i) (cond-false (eqb c r) reach 0 q) ∙ none-named i ∙ sym (and-no-left (eqb c r) (names reach i) q)
-          ]
 
   heard : (code : ℕ) → heardOf i code (receiversOf width r c reach) ≡ delivered r i c reach code
   unfolding heardOf delivered

@@ -1,5 +1,5 @@
 -- What one sender adds fits into the width of a set of processes: it is 0, n, or the ones of its reach. Assumes nothing.
-use mathlib.Core.Path.{_≡_, _∙_}
+use mathlib.Core.Path.{_≡_}
 use mathlib.Core.Logic.{inl, inr}
 use mathlib.Core.Bool.{Bool, cond}
 use Prim.Native.Nat.{ℕ, _^_, _≤_, _<_, zero-le}

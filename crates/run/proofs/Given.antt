@@ -1,18 +1,17 @@
 -- Demand 3 of what is given: the tables hold what each process decides, and whoever does not complete round B undecided has decided by it, since a
 -- decision stays and is never made later than the round after which it stands. Assumes nothing.
-use mathlib.Core.Path.{_≡_, refl, sym, ap, _∙_}
-use mathlib.Core.Logic.{inl, inr, _≢_}
+use mathlib.Core.Path.{refl, sym, ap, _∙_}
+use mathlib.Core.Logic.{inl, inr}
 use Prim.Native.Nat.{ℕ, suc, _≤_, _<_}
 use native.Mathlib.Nat.{eq-zero-or-pos}
 use native.Mathlib.Omega.{arith}
-use lib.ListN.{getD}
 use Rattle.schedule.specs.Schedule.{Schedule}
 use Rattle.schedule.specs.Questions.{Rules}
 use Rattle.run.specs.Protocol.{fcwfa}
 use Rattle.run.specs.Run.{stateAt, after, final}
 use Rattle.run.specs.Report.{report}
-use Rattle.run.specs.Demand.{Completes, Decides}
-use Rattle.run.specs.Given.{Gives, GivesBy, givenB, GivenDemand3}
+use Rattle.run.specs.Demand.{Decides}
+use Rattle.run.specs.Given.{Gives, GivesBy, GivenDemand3}
 use Rattle.run.proofs.States.{range, stays}
 use Rattle.run.proofs.FcwfaRun.{runWorld, laws}
 use Rattle.run.proofs.Demand.{B, late-enough, end-is, demand-3}

@@ -1,5 +1,5 @@
 -- Who completes a round, who hears whom, what a sender adds, and who moves: the facts of specs/Facts.antt that the definitions of the run come
--- to, for any protocol. Nothing after this file unfolds those definitions. Assumes nothing.
+-- to, for any protocol. Assumes nothing.
 use mathlib.Core.Path.{_≡_, ap, _∙_}
 use mathlib.Core.Logic.{_⊎_, inl, inr, _≢_}
 use mathlib.Core.List.{List}
@@ -17,7 +17,7 @@ use Rattle.member.specs.Saying.{nothing}
 use Rattle.schedule.specs.Schedule.{Schedule, names, voteOf, crashOf, reachOf}
 use Rattle.run.specs.Protocol.{Protocol}
 use Rattle.run.specs.Run.{completesRound, isHeard, delivered, completes, stateAt, codeHeard, rowOf, stateAfter, nextState, played, opened, statesAfter, after}
-use Rattle.run.specs.Report.{sentBy, sent}
+use Rattle.run.specs.Report.{sentBy}
 use Rattle.run.specs.Facts.{WhoHearsWhom, WhatIsSent, WhoMoves}
 
 module _ (s : Schedule) (r i : ℕ) where
@@ -52,6 +52,38 @@ module _ (s : Schedule) (r i : ℕ) where
               | inl l ↦ elim (split r (crashOf s i)) [ inl h ↦ crashing (omega arith) | inr h ↦ gone (omega arith) h ]
             ]
       ]
+
+-- what a sender with this crash round, this reach and this code adds in round r
+module _ (n r c reach code : ℕ) where
+  pub sends-nothing : code ≡ nothing → sentBy n r c reach code ≡ 0
+  unfolding sentBy
+  sends-nothing h = cond-true _ _ _ (eq-eqb code nothing h)
+
+  pub sends-to-all : code ≢ nothing → completesRound r c ≡ true → sentBy n r c reach code ≡ n
+  unfolding sentBy
+  sends-to-all h e = cond-false _ 0 _ (ne-eqb code nothing h) ∙ cond-true (completesRound r c) n _ e
+
+  pub sends-to-reach : code ≢ nothing → completesRound r c ≡ false → c ≡ r → sentBy n r c reach code ≡ ones reach
+  unfolding sentBy
+  sends-to-reach h e now = cond-false _ 0 _ (ne-eqb code nothing h) ∙ cond-false (completesRound r c) _ _ e ∙ cond-true (eqb c r) (ones reach) _ (eq-eqb c r now)
+
+  pub sends-no-more : code ≢ nothing → completesRound r c ≡ false → c ≢ r → sentBy n r c reach code ≡ 0
+  unfolding sentBy
+  sends-no-more h e before = cond-false _ 0 _ (ne-eqb code nothing h) ∙ cond-false (completesRound r c) _ _ e ∙ cond-false (eqb c r) _ 0 (ne-eqb c r before)
+
+-- what a process with this crash round does in round r, from its state and its row
+module _ (P : Protocol) (r c : ℕ) (state : P .State) (row : List ℕ) where
+  pub crashed-stays : completesRound r c ≡ false → stateAfter P r c state row ≡ state
+  unfolding stateAfter
+  crashed-stays e = cond-false _ _ _ (and-no-left _ _ e)
+
+  pub stopped-stays : P .stopped state ≡ true → stateAfter P r c state row ≡ state
+  unfolding stateAfter
+  stopped-stays e = cond-false _ _ _ (and-no-right (completesRound r c) _ (ap not e))
+
+  pub other-moves : completesRound r c ≡ true → P .stopped state ≡ false → stateAfter P r c state row ≡ P .hears state row
+  unfolding stateAfter
+  other-moves c e = cond-true _ _ _ (and-both _ _ c (ap not e))
 
 module _ (P : Protocol) (s : Schedule) where
   module _ (r : ℕ) (states : List (P .State)) (j : ℕ) where
@@ -91,49 +123,20 @@ module _ (P : Protocol) (s : Schedule) where
         silent = λ lo hi. code-nothing (gone-not lo hi);
       }
 
-    sends-nothing : said ≡ nothing → sent P s r states j ≡ 0
-    unfolding sentBy
-    sends-nothing h = cond-true _ _ _ (eq-eqb said nothing h)
-
-    sends-to-all : said ≢ nothing → completes s r j ≡ true → sent P s r states j ≡ s .n
-    unfolding sentBy
-    sends-to-all h c = cond-false _ 0 _ (ne-eqb said nothing h) ∙ cond-true (completes s r j) (s .n) _ c
-
-    sends-to-reach : said ≢ nothing → completes s r j ≡ false → crashOf s j ≡ r → sent P s r states j ≡ ones (reachOf s j)
-    unfolding sentBy
-    sends-to-reach h c e =
-        cond-false _ 0 _ (ne-eqb said nothing h) ∙ cond-false (completes s r j) _ _ c ∙ cond-true (eqb (crashOf s j) r) (ones (reachOf s j)) _ (eq-eqb (crashOf s j) r e)
-
-    sends-no-more : said ≢ nothing → completes s r j ≡ false → crashOf s j ≢ r → sent P s r states j ≡ 0
-    unfolding sentBy
-    sends-no-more h c e =
-        cond-false _ 0 _ (ne-eqb said nothing h) ∙ cond-false (completes s r j) _ _ c ∙ cond-false (eqb (crashOf s j) r) _ 0 (ne-eqb (crashOf s j) r e)
-
     pub what-is-sent : WhatIsSent P s r states j
-    what-is-sent = record {
-      says-nothing = sends-nothing;
-      completing = λ h c. sends-to-all h (c .completed);
-      crashing = λ h nz e. sends-to-reach h (completes-not s r j (omega arith) (omega arith)) e;
-      silent = λ lo hi.
-          elim (true-or-false (eqb said nothing)) [
-            | inl z ↦ sends-nothing (eqb-true said nothing z)
-            | inr z ↦ sends-no-more (eqb-false said nothing z) (completes-not s r j lo (omega arith)) (λ e. omega arith)
-          ];
-    }
-
-  -- one round, whatever the states at its start
-  module _ (r : ℕ) (states : List (P .State)) (i : ℕ) where
-    pub crashed-stays : completes s r i ≡ false → nextState P s r states i ≡ stateAt P states i
-    unfolding nextState stateAfter
-    crashed-stays c = cond-false _ _ _ (and-no-left _ _ c)
-
-    pub stopped-stays : P .stopped (stateAt P states i) ≡ true → nextState P s r states i ≡ stateAt P states i
-    unfolding nextState stateAfter
-    stopped-stays e = cond-false _ _ _ (and-no-right (completes s r i) _ (ap not e))
-
-    other-moves : completes s r i ≡ true → P .stopped (stateAt P states i) ≡ false → nextState P s r states i ≡ P .hears (stateAt P states i) (rowOf P s r states i)
-    unfolding nextState stateAfter
-    other-moves c e = cond-true _ _ _ (and-both _ _ c (ap not e))
+    what-is-sent =
+        let c = crashOf s j in
+        let reach = reachOf s j in
+        record {
+          says-nothing = sends-nothing (s .n) r c reach said;
+          completing = λ h e. sends-to-all (s .n) r c reach said h (e .completed);
+          crashing = λ h nz e. sends-to-reach (s .n) r c reach said h (completes-not s r j (omega arith) (omega arith)) e;
+          silent = λ lo hi.
+              elim (true-or-false (eqb said nothing)) [
+                | inl z ↦ sends-nothing (s .n) r c reach said (eqb-true said nothing z)
+                | inr z ↦ sends-no-more (s .n) r c reach said (eqb-false said nothing z) (completes-not s r j lo (omega arith)) (λ e. omega arith)
+              ];
+        }
 
   -- there is a state for each process
   pub states-long : (r : ℕ) → length (statesAfter P s r) ≡ s .n
@@ -151,17 +154,17 @@ module _ (P : Protocol) (s : Schedule) where
     step-is = getD-tabulate (s .n) _ i _ l
 
     crashed-keeps : completes s (suc r) i ≡ false → after P s (suc r) i ≡ after P s r i
-    unfolding after
-    crashed-keeps c = step-is ∙ crashed-stays (suc r) (statesAfter P s r) i c
+    unfolding after nextState
+    crashed-keeps c = step-is ∙ crashed-stays P (suc r) _ _ _ c
 
     stopped-keeps : P .stopped (after P s r i) ≡ true → after P s (suc r) i ≡ after P s r i
-    unfolding after
-    stopped-keeps e = step-is ∙ stopped-stays (suc r) (statesAfter P s r) i e
+    unfolding after nextState
+    stopped-keeps e = step-is ∙ stopped-stays P (suc r) _ _ _ e
 
     other-hears : completes s (suc r) i ≡ true → P .stopped (after P s r i) ≡ false
         → after P s (suc r) i ≡ P .hears (after P s r i) (rowOf P s (suc r) (statesAfter P s r) i)
-    unfolding after
-    other-hears c e = step-is ∙ other-moves (suc r) (statesAfter P s r) i c e
+    unfolding after nextState
+    other-hears c e = step-is ∙ other-moves P (suc r) _ _ _ c e
 
     pub who-moves : WhoMoves P s r i
     who-moves = record {

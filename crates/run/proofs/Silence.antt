@@ -16,8 +16,8 @@ use Rattle.laws.proofs.Sums.{sum-zero, sum-none}
 use Rattle.member.specs.declared.Member.{Member}
 use Rattle.member.specs.State.{undecided, stopped}
 use Rattle.member.specs.Saying.{nothing, estimateCode, decidedCode, says}
-use Rattle.schedule.specs.Schedule.{Schedule, crashOf}
-use Rattle.run.specs.Protocol.{Protocol, fcwfa}
+use Rattle.schedule.specs.Schedule.{Schedule}
+use Rattle.run.specs.Protocol.{Protocol}
 use Rattle.run.specs.Run.{completes, stateAt, nextState, statesAfter, after}
 use Rattle.run.specs.Report.{sent, sentAfter}
 use Rattle.run.specs.Facts.{SilentFrom}
@@ -39,10 +39,11 @@ module _ (P : Protocol) (s : Schedule) (some : 0 < s .n) (mute : (m : P .State) 
 
   -- so such a round leaves every state as it is
   pub nothing-moves : (r : ℕ) (states : List (P .State)) → sum (s .n) (sent P s r states) ≡ 0 → (i : ℕ) → i < s .n → nextState P s r states i ≡ stateAt P states i
+  unfolding nextState
   nothing-moves r states z i l =
       elim (true-or-false (completes s r i)) [
-        | inl c ↦ stopped-stays P s r states i (mute _ (nothing-to-say r states z i l c))
-        | inr c ↦ crashed-stays P s r states i c
+        | inl c ↦ stopped-stays P r _ _ _ (mute _ (nothing-to-say r states z i l c))
+        | inr c ↦ crashed-stays P r _ _ _ c
       ]
 
   -- whoever completes the round that follows r rounds has nothing to say

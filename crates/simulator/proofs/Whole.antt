@@ -1,16 +1,15 @@
 -- The whole call. A refused one changes nothing and gives no counts. An accepted one gives the report of its schedule: the tables and the counts are
 -- those of the states at the end of the run, and demand 3 holds of the report. Assumes nothing.
-use mathlib.Core.Path.{_≡_, refl, sym, ap, ap₂, _∙_, subst}
+use mathlib.Core.Path.{_≡_, refl, sym, ap, _∙_, subst}
 use mathlib.Core.List.{List}
 use mathlib.Core.Bool.{Bool, true, cond, _&&_}
 use Prim.Native.Nat.{ℕ, _≤_}
-use native.Mathlib.Omega.{arith}
 use borrow.Author.Tests.{eqb-true, eq-eqb, ne-eqb}
 use lib.Dec.{eqb}
 use lib.ListN.{length, getD}
 use Rattle.laws.specs.Below.{tabulate}
 use Rattle.laws.specs.Filled.{Filled}
-use Rattle.laws.specs.Answer.{Answer, accepted, refused}
+use Rattle.laws.specs.Answer.{accepted, refused}
 use Rattle.laws.proofs.Test.{and-left, and-right, cond-true, cond-false}
 use Rattle.laws.proofs.Lists.{length-tabulate, tabulate-same}
 use Rattle.laws.proofs.Answer.{answer-accepted, answer-refused, valueOr, not-accepted}
@@ -21,7 +20,7 @@ use Rattle.schedule.specs.Questions.{question, Accepted}
 use Rattle.schedule.proofs.Accepted.{question-accepted, accepted-question}
 use Rattle.run.specs.Protocol.{fcwfa}
 use Rattle.run.specs.Run.{stateAt, final}
-use Rattle.run.specs.Report.{Report, roundOf, decisionOf, firstOf, lastOf, messages, report}
+use Rattle.run.specs.Report.{roundOf, decisionOf, firstOf, lastOf, messages, report}
 use Rattle.run.specs.Given.{GivenDemand3}
 use Rattle.run.proofs.Reported.{rounds-read}
 use Rattle.run.proofs.Theorem.{accepted-run}

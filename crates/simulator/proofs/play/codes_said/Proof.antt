@@ -2,7 +2,6 @@
 use Prim.Native.Nat.{_-_, _≤_}
 use native.Mathlib.Omega.{arith}
 use borrow.Author.Needs.{needs}
-use lib.ListN.{getD}
 use Rattle.laws.specs.Filled.{Filled}
 use Rattle.laws.proofs.Filled.{each-none, each-more, each-all}
 use Rattle.member.specs.Saying.{says}

@@ -2,10 +2,9 @@
 use mathlib.Core.Path.{sym}
 use Prim.Native.Nat.{_-_, _≤_}
 use native.Mathlib.Omega.{arith}
-use borrow.Author.Needs.{needs}
+use mathlib.Core.List.{[]}
 use lib.ListN.{getD, take}
 use lib.Seq.{length-take-le}
-use mathlib.Core.List.{[]}
 use Rattle.laws.specs.Filled.{Filled}
 use Rattle.laws.proofs.Filled.{each-none, each-more, each-all}
 use Rattle.run.specs.Protocol.{fcwfa}
