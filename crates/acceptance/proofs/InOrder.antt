@@ -32,13 +32,9 @@ module _ (s : Schedule) (limit : ℕ) (answers : Bool) where
         unfolding question ask andThen
         number-of-process h = rw (h1, h2, h3, ← processes, ne-eqb q 0 h)
 
-        pub number-7 : q ≡ 0 → leb (crashCount s) (s .t) ≡ false → 7 ≡ question s limit answers
+        pub past-processes : q ≡ 0 → question s limit answers ≡ ask (leb (crashCount s) (s .t)) 7 0
         unfolding question ask andThen
-        number-7 h h7 = rw (h1, h2, h3, ← processes, eq-eqb q 0 h, h7)
-
-        pub no-number : q ≡ 0 → leb (crashCount s) (s .t) ≡ true → 0 ≡ question s limit answers
-        unfolding question ask andThen
-        no-number h h7 = rw (h1, h2, h3, ← processes, eq-eqb q 0 h, h7)
+        past-processes h = rw (h1, h2, h3, ← processes, eq-eqb q 0 h)
 
 module _ (limit : ℕ) (s : Schedule) (q : ℕ) (asked : q ≡ question s limit true) where
   pub refused-by : q ≢ 0 → refused q tt ≡ acceptAnswer limit s

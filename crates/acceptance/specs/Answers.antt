@@ -8,6 +8,7 @@ use Rattle.schedule.specs.Questions.{question}
 use Rattle.acceptance.specs.declared.Acceptance.{Acceptance}
 use Rattle.acceptance.specs.declared.Acceptance.the-variants.{Accepted, Refused}
 
+-- "The first "no" gives its number."
 abbrev pub acceptanceIs : Acceptance → Answer (Unit {0}) (Unit {0})
 acceptanceIs Accepted = accepted tt
 acceptanceIs (Refused number) = refused number tt

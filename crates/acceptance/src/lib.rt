@@ -75,9 +75,9 @@ pub fn question(
     if !are_tables_long(n, votes.len(), crashes.len(), reaches.len(), answers) {
         return 3;
     }
-    let first = processes_question(n, t, votes, crashes, reaches);
-    if first != 0 {
-        return first;
+    let number = processes_question(n, t, votes, crashes, reaches);
+    if number != 0 {
+        return number;
     }
     let f = crash_count(crashes);
     if t < f {

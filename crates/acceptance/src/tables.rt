@@ -44,12 +44,12 @@ pub fn processes_question(n: usize, t: usize, votes: &[u8], crashes: &[u8], reac
     requires long { ⌜ (length (now votes) ≡ n) × (length (now crashes) ≡ n) × (length (now reaches) ≡ n) ⌝ }
     ensures asked { λ r. ⌜ r ≡ askEach n (processQuestion (scheduleOf n t (now (votes .entry)) (now (crashes .entry)) (now (reaches .entry)))) ⌝ }
 {
-    let mut first: u8 = 0;
+    let mut number: u8 = 0;
     let mut i: usize = 0;
     while i < n {
         let next = process_question(n, t, i, votes[i], crashes[i], reaches[i]);
-        first = first_no(first, next);
+        number = first_no(number, next);
         i += 1;
     }
-    first
+    number
 }

@@ -144,8 +144,9 @@ pub fn play(n: usize, t: usize, votes: &[u8], crashes: &[u8], reaches: &[u32]) -
         let played = play_round(n, round + 1, members, crashes, reaches);
         let next = played.members;
         members = next;
-        messages += played.messages;
-        speaking = played.messages != 0;
+        let sent = played.messages;
+        messages += sent;
+        speaking = sent != 0;
         round += 1;
     }
     Played {

@@ -1,18 +1,20 @@
 -- `question` meets its contract: each question that is passed goes on to the next. Assumes nothing.
-use mathlib.Core.Path.{_≡_, refl, ap, _∙_}
+use mathlib.Core.Path.{_≡_, refl, sym, ap, _∙_}
 use mathlib.Core.Bool.{true, false, _&&_}
 use Prim.Native.Nat.{ℕ, _-_}
 use native.Mathlib.Omega.{arith}
 use borrow.Author.Needs.{needs}
 use borrow.Author.Tests.{le-leb, lt-leb}
+use lib.Dec.{leb}
 use lib.ListN.{length}
 use Rattle.laws.specs.Test.{within}
+use Rattle.laws.specs.Answer.{ask}
 use Rattle.laws.proofs.Test.{and-left, was-false, was-true, within-low, within-high}
 use Rattle.member.specs.Opening.{largest}
-use Rattle.schedule.specs.Schedule.{Schedule, scheduleOf, crashesIn, crashCount}
-use Rattle.schedule.specs.Questions.{tablesLong}
+use Rattle.schedule.specs.Schedule.{Schedule, scheduleOf, crashesIn}
+use Rattle.schedule.specs.Questions.{tablesLong, question}
 use Rattle.schedule.proofs.Accepted.{table-lengths}
-use Rattle.acceptance.proofs.InOrder.{number-1, number-2, number-3, number-of-process, number-7, no-number}
+use Rattle.acceptance.proofs.InOrder.{number-1, number-2, number-3, number-of-process, past-processes}
 use Rattle.acceptance.proofs.question.Statement.{statement}
 use Rattle.acceptance.proofs.question.Tie as tie
 
@@ -82,28 +84,26 @@ returns-4 c =
 crash-count-requires : tie.Need-crash-count-requires
 crash-count-requires c κs = search needs
 
--- the table of crash rounds is n long, so its count is f
-counted : (c : tie.After-crash-count) → c .crash-count .result ≡ crashCount (given (c .before .before .before .before .before))
-counted c =
+-- past the first six questions; the table of crash rounds is n long, so its count is f
+up-to-7 : (c : tie.After-crash-count) → let c2 = c .before .before .before .before .before in question (given c2) largest (c2 .before .before .before .before .before .before .before .args .answers) ≡ ask (leb (c .crash-count .result) (given c2 .t)) 7 0
+up-to-7 c =
     let c3 = c .before .before .before in
-    c .crash-count .ensures ∙ ap (λ (n : ℕ). crashesIn n (given (c3 .before .before) .crashes)) (lengths c3 .1)
-
--- question 7 is passed
-returns-6 : tie.Need-returns-6
-returns-6 c =
-    let c3 = c .before .before .before .before in
     let c2 = c3 .before .before in
-    let f = counted (c .before) in
-    no-number (given c2) _ _ (n-within (c2 .before .before)) (t-within c2) (all-long c3) _ (c .before .before .before .processes-question .ensures) (c .before .before .if4 .left)
-    (le-leb (crashCount (given c2)) (given c2 .t) (omega arith))
+    let f = c .crash-count .ensures ∙ ap (λ (n : ℕ). crashesIn n (given c2 .crashes)) (lengths c3 .1) in
+    past-processes (given c2) _ _ (n-within (c2 .before .before)) (t-within c2) (all-long c3) _ (c .before .before .processes-question .ensures) (c .before .if4 .left)
+    ∙ ap (λ (f : ℕ). ask (leb f (given c2 .t)) 7 0) (sym f)
+
+returns-6 : tie.Need-returns-6
+unfolding ask
+returns-6 c =
+    let t = c .before .before .before .before .before .before .before .before .before .before .before .before .before .args .t in
+    rw (up-to-7 (c .before), le-leb (c .before .crash-count .result) t (omega arith))
 
 returns-5 : tie.Need-returns-5
+unfolding ask
 returns-5 c =
-    let c3 = c .before .before .before .before in
-    let c2 = c3 .before .before in
-    let f = counted (c .before) in
-    number-7 (given c2) _ _ (n-within (c2 .before .before)) (t-within c2) (all-long c3) _ (c .before .before .before .processes-question .ensures) (c .before .before .if4 .left)
-    (lt-leb (crashCount (given c2)) (given c2 .t) (omega arith))
+    let t = c .before .before .before .before .before .before .before .before .before .before .before .before .before .args .t in
+    rw (up-to-7 (c .before), lt-leb (c .before .crash-count .result) t (omega arith))
 
 pub question-spec : {M : Type 1} → statement M
 question-spec =

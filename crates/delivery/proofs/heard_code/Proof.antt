@@ -2,6 +2,7 @@
 use mathlib.Core.Path.{sym, _∙_}
 use borrow.Author.Needs.{needs}
 use Rattle.laws.proofs.Test.{cond-true, cond-false}
+use Rattle.schedule.specs.Schedule.{names}
 use Rattle.delivery.specs.Receivers.{heardOf}
 use Rattle.delivery.proofs.heard_code.Statement.{statement}
 use Rattle.delivery.proofs.heard_code.Tie as tie
@@ -11,11 +12,15 @@ is-named-requires c κs = search needs
 
 returns : tie.Need-returns
 unfolding heardOf
-returns c = sym (cond-true _ _ _ (sym (c .before .is-named .ensures) ∙ c .if1 .taken))
+returns c =
+    let a = c .before .before .args in
+    sym (cond-true (names (a .to) (a .hearer)) (a .code) 0 (sym (c .before .is-named .ensures) ∙ c .if1 .taken))
 
 returns-2 : tie.Need-returns-2
 unfolding heardOf
-returns-2 c = sym (cond-false _ _ _ (sym (c .before .is-named .ensures) ∙ c .if1 .left))
+returns-2 c =
+    let a = c .before .before .args in
+    sym (cond-false (names (a .to) (a .hearer)) (a .code) 0 (sym (c .before .is-named .ensures) ∙ c .if1 .left))
 
 pub heard-code-spec : {M : Type 1} → statement M
 heard-code-spec = tie.close (tie.spec is-named-requires returns returns-2)

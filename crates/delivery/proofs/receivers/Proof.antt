@@ -17,12 +17,12 @@ returns c =
 returns-2 : tie.Need-returns-2
 returns-2 c =
     let a = c .before .before .before .args in
-    omega (arith, crashed 32 (a .round) (a .crash) (a .reach) (sym (c .before .before .completes .ensures) ∙ c .before .if1 .left) (c .if2 .taken))
+    omega (arith, crashed 32 (a .round) (a .crash) (a .reach) (sym (c .before .before .completes .ensures) ∙ c .before .if1 .left) (λ e. omega arith))
 
 returns-3 : tie.Need-returns-3
 returns-3 c =
     let a = c .before .before .before .args in
-    omega (arith, crashing 32 (a .round) (a .crash) (a .reach) (sym (c .before .before .completes .ensures) ∙ c .before .if1 .left) (c .if2 .left))
+    omega (arith, crashing 32 (a .round) (a .crash) (a .reach) (sym (c .before .before .completes .ensures) ∙ c .before .if1 .left) (omega arith))
 
 pub receivers-spec : {M : Type 1} → statement M
 receivers-spec = tie.close (tie.spec completes-requires returns returns-2 returns-3)

@@ -12,10 +12,10 @@ use Rattle.acceptance.proofs.tables.processes_question.Statement.{state
 use Rattle.acceptance.proofs.tables.processes_question.Tie as tie
 
 abbrev Inv-loop : tie.InvT-loop
-Inv-loop n t votes crashes reaches first₀ i₀ first i = (i ≤ n) × (first ≡ askEach i (processQuestion (scheduleOf n t votes crashes reaches)))
+Inv-loop n t votes crashes reaches number₀ i₀ number i = (i ≤ n) × (number ≡ askEach i (processQuestion (scheduleOf n t votes crashes reaches)))
 
 abbrev μ-loop : tie.MeasureT-loop
-μ-loop n t votes crashes reaches first₀ i₀ first i = n - i
+μ-loop n t votes crashes reaches number₀ i₀ number i = n - i
 
 loop-holds : tie.Need-loop-holds Inv-loop μ-loop
 unfolding askEach fold

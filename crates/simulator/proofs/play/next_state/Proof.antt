@@ -1,9 +1,12 @@
--- `next_state` meets its contract: a member that says nothing is stopped, and keeps its state; of the others those that complete the round hear their rows. Assumes nothing.
-use mathlib.Core.Path.{sym, _∙_}
+-- `next_state` meets its contract: a member that says nothing is stopped, and keeps its state; of the others those that complete the round hear
+-- their rows. Assumes nothing.
+use mathlib.Core.Path.{_≡_, sym, _∙_}
+use mathlib.Core.Bool.{true}
 use native.Mathlib.Omega.{arith}
 use borrow.Author.Needs.{needs}
 use denote.Ref.{now}
 use Rattle.run.specs.Protocol.{fcwfa}
+use Rattle.run.specs.Run.{completesRound}
 use Rattle.run.proofs.Rounds.{crashed-stays, stopped-stays, other-moves}
 use Rattle.run.proofs.Silence.{mute-stops}
 use Rattle.simulator.proofs.Moves.{speaks-on}
@@ -21,9 +24,10 @@ completes-requires c κs = search needs
 
 state-heard-requires : tie.Need-state-heard-requires
 state-heard-requires c κs =
+    let a = c .before .before .before .before .args in
     let pre = c .before .before .before .before .pre in
-    pre .1 (sym (c .before .completes .ensures) ∙ c .if2 .taken)
-    (speaks-on (c .before .before .before .before .args .m) (λ e. c .before .before .if1 .left (pre .0 ∙ e)))
+    let done : completesRound (a .round) (a .crash) ≡ true = sym (c .before .completes .ensures) ∙ c .if2 .taken in
+    pre .1 done (speaks-on (a .m) (λ e. c .before .before .if1 .left (pre .0 ∙ e)))
 
 returns-2 : tie.Need-returns-2
 returns-2 c =

@@ -56,33 +56,33 @@ play-round-requires c κs =
 
 add-messages : tie.Need-add-messages Inv-loop μ-loop
 add-messages c =
-    let a = accepted _ (c .before .before .before .before .before .before .before .before .before .before .pre) in
+    let a = accepted _ (c .before .before .before .before .before .before .before .before .before .pre) in
     let high = a .n-high in
     let below = a .rules .t-high in
-    let inside = c .before .before .before .before .before .loop .inv .inside in
-    let so-far = c .before .before .before .before .before .loop .inv .few in
-    let few = c .before .before .play-round .ensures .1 .1 in
+    let inside = c .before .before .before .before .loop .inv .inside in
+    let so-far = c .before .before .before .before .loop .inv .few in
+    let few = c .before .play-round .ensures .1 .1 in
     omega arith
 
 add-round : tie.Need-add-round Inv-loop μ-loop
 add-round c =
-    let a = accepted _ (c .before .before .before .before .before .before .before .before .before .before .before .pre) in
+    let a = accepted _ (c .before .before .before .before .before .before .before .before .before .pre) in
     let high = a .n-high in
     let below = a .rules .t-high in
-    let inside = c .before .before .before .before .before .before .loop .inv .inside in
+    let inside = c .before .before .before .before .loop .inv .inside in
     omega arith
 
 loop-less : tie.Need-loop-less Inv-loop μ-loop
 loop-less c =
-    let more : c .before .before .before .before .before .before .loop .round < c .before .before .before .before .before .before .before .before .before .before .before .args .t + 1 = ltb-true _ _ (c .before .before .before .before .if1 .taken) in
+    let more : c .before .before .before .before .loop .round < c .before .before .before .before .before .before .before .before .before .args .t + 1 = ltb-true _ _ (c .before .before .if1 .taken) in
     omega arith
 
 loop-again : tie.Need-loop-again Inv-loop μ-loop
 loop-again c =
-    let pre = c .before .before .before .before .before .before .before .before .before .before .before .pre in
-    let more : c .before .before .before .before .before .before .loop .round < c .before .before .before .before .before .before .before .before .before .before .before .args .t + 1 = ltb-true _ _ (c .before .before .before .before .if1 .taken) in
-    let played = c .before .before .before .play-round .ensures in
-    goes-on _ pre (c .before .before .before .before .before .before .loop .inv) (omega arith) (played .0) (played .1 .0) (played .1 .1)
+    let pre = c .before .before .before .before .before .before .before .before .before .pre in
+    let more : c .before .before .before .before .loop .round < c .before .before .before .before .before .before .before .before .before .args .t + 1 = ltb-true _ _ (c .before .before .if1 .taken) in
+    let played = c .before .play-round .ensures in
+    goes-on _ pre (c .before .before .before .before .loop .inv) (omega arith) (played .0) (played .1 .0) (played .1 .1)
 
 returns : tie.Need-returns Inv-loop μ-loop
 returns c = ends-last _ (c .before .before .loop .inv) (ltb-false _ _ (c .if1 .left))
