@@ -53,5 +53,5 @@ module _ (s : Schedule) (ok : Rules s) where
             ];
         message-bound = d .message-bound;
         weak-fast-abort = λ z i c. gives i 0 2 (d .weak-fast-abort z i c);
-        fast-commit = λ all none i l. gives i 1 2 (d .fast-commit all none i l);
+        fast-commit = λ all none i l. gives i 1 2 (d .fast-commit all (omega arith) i l);
       }

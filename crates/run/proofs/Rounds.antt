@@ -3,7 +3,7 @@
 use mathlib.Core.Path.{_≡_, ap, _∙_}
 use mathlib.Core.Logic.{_⊎_, inl, inr, _≢_}
 use mathlib.Core.List.{List}
-use mathlib.Core.Bool.{true, false, not}
+use mathlib.Core.Bool.{true, false, not, _&&_}
 use Prim.Native.Nat.{ℕ, zero, suc, _+_, _≤_, _<_}
 use native.Mathlib.Omega.{arith}
 use lib.Dec.{eqb}
@@ -75,15 +75,15 @@ module _ (n r c reach code : ℕ) where
 module _ (P : Protocol) (r c : ℕ) (state : P .State) (row : List ℕ) where
   pub crashed-stays : completesRound r c ≡ false → stateAfter P r c state row ≡ state
   unfolding stateAfter
-  crashed-stays e = cond-false _ _ _ (and-no-left _ _ e)
+  crashed-stays e = cond-false (completesRound r c && not (P .stopped state)) (P .hears state row) state (and-no-left (completesRound r c) _ e)
 
   pub stopped-stays : P .stopped state ≡ true → stateAfter P r c state row ≡ state
   unfolding stateAfter
-  stopped-stays e = cond-false _ _ _ (and-no-right (completesRound r c) _ (ap not e))
+  stopped-stays e = cond-false (completesRound r c && not (P .stopped state)) (P .hears state row) state (and-no-right (completesRound r c) _ (ap not e))
 
   pub other-moves : completesRound r c ≡ true → P .stopped state ≡ false → stateAfter P r c state row ≡ P .hears state row
   unfolding stateAfter
-  other-moves c e = cond-true _ _ _ (and-both _ _ c (ap not e))
+  other-moves h e = cond-true (completesRound r c && not (P .stopped state)) (P .hears state row) state (and-both (completesRound r c) _ h (ap not e))
 
 module _ (P : Protocol) (s : Schedule) where
   module _ (r : ℕ) (states : List (P .State)) (j : ℕ) where
@@ -109,11 +109,11 @@ module _ (P : Protocol) (s : Schedule) where
 
       code-said : isHeard r i (crashOf s j) (reachOf s j) ≡ true → codeHeard P s r states i j ≡ said
       unfolding codeHeard delivered
-      code-said h = cond-true (isHeard r i (crashOf s j) (reachOf s j)) _ _ h
+      code-said h = cond-true (isHeard r i (crashOf s j) (reachOf s j)) said nothing h
 
       code-nothing : isHeard r i (crashOf s j) (reachOf s j) ≡ false → codeHeard P s r states i j ≡ nothing
       unfolding codeHeard delivered
-      code-nothing h = cond-false (isHeard r i (crashOf s j) (reachOf s j)) _ _ h
+      code-nothing h = cond-false (isHeard r i (crashOf s j) (reachOf s j)) said nothing h
 
       pub who-hears-whom : WhoHearsWhom P s r states i j
       who-hears-whom = record {
