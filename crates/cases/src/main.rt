@@ -1,10 +1,10 @@
-// Shows the marked schedules of document 01 run by the simulator: for each of A to K the report of its
-// run, then for each entry of its refused schedules the number that the simulator answers, 0 for one
-// that passes. Were an answer not the one that the table of the crate `marked` has, a line after it
-// would say so.
+// Shows the simulator at work on the marked schedules of document 01: the report of each case A to K,
+// then, for each refused schedule, its place in the table and the number that the simulator answers, 0
+// for one that passes. Both tables are those of the crate `marked`, with the results that are due; an
+// answer with other results would be followed by a line that says so.
 ghost use mathlib.Core.Path.{_≡_};
 ghost use mathlib.Core.Bool.{true};
-ghost use Prim.Native.Nat.{_<_, _≤_};
+ghost use Prim.Native.Nat.{_<_};
 ghost use lib.ListN.{length};
 ghost use Rattle.marked.specs.Marked.{cases};
 ghost use Rattle.marked.specs.Refused.{refusals};
@@ -14,7 +14,7 @@ use marked::Refusal;
 use simulator::Counts;
 use simulator::Simulated;
 
-// Every marked schedule has n = 4 and t = 3.
+// Every case has n = 4 and t = 3.
 const N: usize = 4;
 
 const T: usize = 3;
@@ -25,17 +25,7 @@ fn main() {
     show_refusals();
 }
 
-fn print(text: &[u8]) {
-    io::write_all(STDOUT_FILENO, text);
-}
-
-// A number with what follows it.
-fn print_number(x: usize, end: &[u8]) {
-    io::print_decimal(STDOUT_FILENO, x as u64);
-    print(end);
-}
-
-// The cases of the table, in order.
+// Every case of the table, in order.
 fn show_cases() {
     let mut k: usize = 0;
     while is_case(k) {
@@ -44,7 +34,7 @@ fn show_cases() {
     }
 }
 
-// Whether the table has a case k. Each that it has comes before its end, so the loop over them ends.
+// Whether the table has a case k. It has none past its end, so the loop over the cases ends.
 fn is_case(k: usize) -> bool
     ensures before_the_end { λ r. ⌜ (r ≡ true → k < length cases) ⌝ }
 {
@@ -52,7 +42,7 @@ fn is_case(k: usize) -> bool
     entry.found
 }
 
-// Case k by its letter, and its report.
+// The letter of a case, and its run.
 fn show_case(k: usize)
     requires there { ⌜ k < length cases ⌝ }
 {
@@ -63,7 +53,7 @@ fn show_case(k: usize)
     show_run(entry.case);
 }
 
-// The report of the run of a case.
+// The run of a case. The simulator fills the two answer tables.
 fn show_run(case: Case) {
     let votes = case.votes;
     let crashes = case.crashes;
@@ -79,38 +69,21 @@ fn show_run(case: Case) {
         &mut decisions,
         &mut rounds,
     );
-    let Simulated::Completed(counts) = answer else {
-        return;
-    };
-    show_report(case, counts, decisions, rounds);
+    show_answer(case, answer, decisions, rounds);
 }
 
 // The report, and whether the table has the same.
-fn show_report(case: Case, counts: Counts, decisions: [u8; 4], rounds: [u8; 4]) {
+fn show_answer(case: Case, answer: Simulated, decisions: [u8; 4], rounds: [u8; 4]) {
+    let Simulated::Completed(counts) = answer else {
+        show_difference(false);
+        return;
+    };
     show_counts(counts);
     show_processes(decisions, rounds);
-    show_same(is_marked(case, counts, decisions, rounds));
+    show_difference(is_as_marked(case, counts, decisions, rounds));
 }
 
-// Whether the table has these results for the case.
-fn is_marked(case: Case, counts: Counts, decisions: [u8; 4], rounds: [u8; 4]) -> bool {
-    let marked_decisions = case.decisions;
-    let marked_rounds = case.rounds;
-    check::same(&decisions, &marked_decisions)
-        & check::same(&rounds, &marked_rounds)
-        & (counts.f == case.f as usize)
-        & (counts.first == case.first as usize)
-        & (counts.last == case.last as usize)
-        & (counts.messages == case.messages as usize)
-}
-
-fn show_same(same: bool) {
-    if !same {
-        print(b"differs from the table\n");
-    }
-}
-
-// The counts, and the names for the lines of the processes.
+// The counts, under their names, and the names of what comes for each process.
 fn show_counts(counts: Counts) {
     print(b"n t f first last messages\n");
     print_number(N, b" ");
@@ -135,11 +108,24 @@ fn show_process(id: usize, decision: u8, round: u8) {
     print_number(round as usize, b"\n");
 }
 
+// A decision as it is printed: 2 is none.
 fn decision_letter(decision: u8) -> u8 {
-    if decision < 2 { 48 + decision } else { 45 }
+    if decision < 2 { b'0' + decision } else { b'-' }
 }
 
-// The refused schedules of the table, in order.
+// Whether these are the results that the table has for the case.
+fn is_as_marked(case: Case, counts: Counts, decisions: [u8; 4], rounds: [u8; 4]) -> bool {
+    let marked_decisions = case.decisions;
+    let marked_rounds = case.rounds;
+    check::same(&decisions, &marked_decisions)
+        & check::same(&rounds, &marked_rounds)
+        & (counts.f == case.f as usize)
+        & (counts.first == case.first as usize)
+        & (counts.last == case.last as usize)
+        & (counts.messages == case.messages as usize)
+}
+
+// Every refused schedule of the table, in order.
 fn show_refusals() {
     let mut k: usize = 0;
     while is_refusal(k) {
@@ -148,6 +134,7 @@ fn show_refusals() {
     }
 }
 
+// Whether the table has a refused schedule k.
 fn is_refusal(k: usize) -> bool
     ensures before_the_end { λ r. ⌜ (r ≡ true → k < length refusals) ⌝ }
 {
@@ -155,7 +142,7 @@ fn is_refusal(k: usize) -> bool
     entry.found
 }
 
-// Refused schedule k by its place, counted from 1, and the number.
+// The place of a refused schedule, counted from 1, and the number that the simulator answers.
 fn show_refusal(k: usize)
     requires there { ⌜ k < length refusals ⌝ }
 {
@@ -163,25 +150,26 @@ fn show_refusal(k: usize)
     let number = number_of(entry.refusal);
     print_number(k + 1, b" ");
     print_number(number as usize, b"\n");
-    show_same(number == entry.refusal.number);
+    show_difference(number == entry.refusal.number);
 }
 
-// The number that the schedule is refused with, 0 if it passes.
+// The number that the schedule is refused with, 0 if it passes. Its tables have four places, and its
+// processes are in the first n. They are given whole: with n = 4 that is the same, and fewer processes
+// are refused before the tables are asked about.
 fn number_of(refusal: Refusal) -> u8 {
-    let n = refusal.n;
     let votes = refusal.votes;
     let crashes = refusal.crashes;
     let reaches = refusal.reaches;
     let mut decisions = [0u8; 4];
     let mut rounds = [0u8; 4];
     let answer = simulator::simulate(
-        n,
+        refusal.n,
         refusal.t,
-        first(&votes, n),
-        first(&crashes, n),
-        first_reaches(&reaches, n),
-        first_answers(&mut decisions, n),
-        first_answers(&mut rounds, n),
+        &votes,
+        &crashes,
+        &reaches,
+        &mut decisions,
+        &mut rounds,
     );
     let Simulated::Refused(number) = answer else {
         return 0;
@@ -189,24 +177,19 @@ fn number_of(refusal: Refusal) -> u8 {
     number
 }
 
-// The first n places of a table, or all that it has.
-fn first(table: &[u8], n: usize) -> &[u8] {
-    if n < table.len() {
-        return &table[0..n];
+// A line more where the table has other results.
+fn show_difference(is_same: bool) {
+    if !is_same {
+        print(b"differs from the table\n");
     }
-    table
 }
 
-fn first_reaches(table: &[u32], n: usize) -> &[u32] {
-    if n < table.len() {
-        return &table[0..n];
-    }
-    table
+fn print(text: &[u8]) {
+    io::write_all(STDOUT_FILENO, text);
 }
 
-fn first_answers(table: &mut [u8], n: usize) -> &mut [u8] {
-    if n < table.len() {
-        return &mut table[0..n];
-    }
-    table
+// A number, and what stands after it.
+fn print_number(x: usize, after: &[u8]) {
+    io::print_decimal(STDOUT_FILENO, x as u64);
+    print(after);
 }
