@@ -1,5 +1,5 @@
--- The bits of a reach: a number is below 2 ^ n exactly where nothing is left once its n low bits are shifted out, and a number of 32 bits
--- names nobody at a place above 31. Assumes nothing.
+-- The bits of a reach: a number is below 2 ^ n exactly where nothing is left once its n low bits are shifted out, and a number of so many bits
+-- names nobody at a place past them. Assumes nothing.
 use mathlib.Core.Path.{_≡_, ap}
 use mathlib.Core.Bool.{true, false}
 use Prim.Native.Nat.{ℕ, _/_, _%_, _^_, _≤_, _<_}
@@ -16,6 +16,6 @@ below-power x n h = lt-ltb x (2 ^ n) (omega (arith, div-lt-iff-lt-mul {x = x} {y
 pub past-power : (x n : ℕ) → 0 < x / 2 ^ n → ltb x (2 ^ n) ≡ false
 past-power x n h = le-ltb x (2 ^ n) (omega (arith, le-div-iff-mul-le {x = 1} {y = x} (pow-pos n) .0 (omega arith)))
 
-pub names-nobody : (reach i : ℕ) → reach < 2 ^ 32 → 31 < i → names reach i ≡ false
+pub names-nobody : (width reach i : ℕ) → reach < 2 ^ width → width ≤ i → names reach i ≡ false
 unfolding names
-names-nobody reach i short past = ap (λ (x : ℕ). eqb (x % 2) 1) (div-eq-of-lt (lt-of-lt-of-le short (pow-mono past)))
+names-nobody width reach i short past = ap (λ (x : ℕ). eqb (x % 2) 1) (div-eq-of-lt (lt-of-lt-of-le short (pow-mono past)))

@@ -2,9 +2,8 @@
 -- that it names, and the empty set none. Assumes nothing.
 use mathlib.Core.Path.{_≡_, sym, ap, _∙_}
 use mathlib.Core.Logic.{inl, inr}
-use mathlib.Core.Bool.{Bool, true, false, cond, _&&_}
-use Prim.Native.Nat.{ℕ, suc, _+_, _-_, _/_, _%_, _^_, _<_}
-use native.Mathlib.Nat.{zero-div}
+use mathlib.Core.Bool.{Bool, true, cond, _&&_}
+use Prim.Native.Nat.{ℕ, suc, _+_, _-_, _/_, _%_, _^_, _<_, zero-le}
 use native.Mathlib.Omega.{arith}
 use lib.Dec.{eqb}
 use lib.Pow.{ones-split, ones-lt, high, low}
@@ -12,6 +11,7 @@ use borrow.Author.Tests.{eqb-true, eqb-false, eq-eqb}
 use Rattle.laws.proofs.Test.{true-or-false, and-goes-on, and-no-left, or-left, or-goes-on, or-neither}
 use Rattle.member.specs.Saying.{nothing}
 use Rattle.schedule.specs.Schedule.{names}
+use Rattle.acceptance.proofs.Reach.{names-nobody}
 use Rattle.run.specs.Run.{completesRound, isHeard, delivered}
 use Rattle.delivery.proofs.Sets.{completing, crashing, crashed}
 use Rattle.delivery.specs.Receivers.{receiversOf, heardOf, HeardIsDelivered}
@@ -27,10 +27,6 @@ all-named width i l =
     let f : suc j ≡ j + 1 = omega arith in
     let odd : (2 ^ suc j - 1) % 2 ≡ 1 = ap (λ (w : ℕ). (2 ^ w - 1) % 2) f ∙ ap (λ (x : ℕ). x % 2) (ones-split j 1) ∙ low (2 ^ j - 1) 1 (ones-lt 1) in
     eq-eqb _ _ (ap (λ (x : ℕ). x % 2) rest ∙ odd)
-
-none-named : (i : ℕ) → names 0 i ≡ false
-unfolding names
-none-named i = ap (λ (x : ℕ). eqb (x % 2) 1) (zero-div (2 ^ i))
 
 module _ (width r i c reach : ℕ) (l : i < width) where
   named : names (receiversOf width r c reach) i ≡ isHeard r i c reach
@@ -49,7 +45,7 @@ module _ (width r i c reach : ℕ) (l : i < width) where
                   ∙ or-goes-on (completesRound r c) _ e
               | inr q ↦
                   ap (λ (x : ℕ). names x i) (crashed width r c reach e (eqb-false c r q))
-                  ∙ none-named i
+                  ∙ names-nobody 0 0 i (omega arith) zero-le
                   ∙ sym (or-neither (completesRound r c) _ e (and-no-left (eqb c r) (names reach i) q))
             ]
       ]

@@ -11,7 +11,7 @@ use Rattle.acceptance.proofs.is_named.Statement.{statement}
 use Rattle.acceptance.proofs.is_named.Tie as tie
 
 returns : tie.Need-returns
-returns c = let a = c .before .args in sym (names-nobody (a .reach) (a .i) (omega arith) (omega arith))
+returns c = let a = c .before .args in sym (names-nobody 32 (a .reach) (a .i) (omega arith) (omega arith))
 
 cast-result : tie.Need-cast-result
 cast-result c = search needs
