@@ -1,3 +1,2 @@
 pub mod Reach
-pub mod AtPlace
 pub mod InOrder

@@ -2,15 +2,17 @@
 // come before any run.
 //
 // `question` gives the number of the first question whose answer is no, or 0, and serves calls that
-// take answer tables too; `accepts` answers for the three input tables alone. `crash_count` reads a
-// table of crash rounds, `is_named` a reach. Each of the four takes anything and answers what the
-// definitions of the crate `schedule` give; none has a `requires`.
+// take answer tables too; `accepts` answers for the three input tables alone. `size_question` asks about
+// n and t, `process_question` about the values of one process. `crash_count` reads a table of crash
+// rounds, `is_named` a reach. Each takes anything and answers what the definitions of the crate
+// `schedule` give; none has a `requires`.
 mod process;
 mod tables;
 
+pub use process::process_question;
 ghost use mathlib.Core.Path.{_≡_};
 ghost use lib.ListN.{length};
-ghost use Rattle.member.specs.Opening.{largest};
+ghost use Rattle.member.specs.Opening.{largest, sizeQuestions};
 ghost use Rattle.schedule.specs.Schedule.{scheduleOf, names, crashesIn};
 ghost use Rattle.schedule.specs.Questions.{question as Questions·question};
 ghost use Rattle.acceptance.specs.Answers.{acceptanceIs, acceptAnswer};
@@ -53,6 +55,20 @@ pub fn is_named(reach: u32, i: usize) -> bool
     (reach >> (i as u32)) & 1 == 1
 }
 
+// The number of the first question about n and t whose answer is no, or 0.
+pub fn size_question(n: usize, t: usize) -> u8
+    ensures asked { λ r. ⌜ r ≡ sizeQuestions largest n t 0 ⌝ }
+{
+    if !is_within(4, n, LARGEST) {
+        return 1;
+    }
+    let below = n - 1;
+    if !is_within(3, t, below) {
+        return 2;
+    }
+    0
+}
+
 // The number of the first question of a schedule in tables whose answer is no, or 0. `answers` tells
 // whether the answer tables that the call takes are n long.
 pub fn question(
@@ -65,12 +81,9 @@ pub fn question(
 ) -> u8
     ensures asked { λ r. ⌜ r ≡ Questions·question (scheduleOf n t (now (votes .entry)) (now (crashes .entry)) (now (reaches .entry))) largest answers ⌝ }
 {
-    if !is_within(4, n, LARGEST) {
-        return 1;
-    }
-    let below = n - 1;
-    if !is_within(3, t, below) {
-        return 2;
+    let sizes = size_question(n, t);
+    if sizes != 0 {
+        return sizes;
     }
     if !are_tables_long(n, votes.len(), crashes.len(), reaches.len(), answers) {
         return 3;

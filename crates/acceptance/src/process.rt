@@ -1,19 +1,30 @@
-// The questions about one process, 4 to 6. The functions take the values that the tables hold at its
-// place i, and their contracts speak of every schedule that has these values there.
+// The questions about one process, 4 to 6, on the values that stand at its place i. None has a
+// `requires`: n, t and i may be anything.
 ghost use mathlib.Core.Path.{_≡_};
-ghost use Prim.Native.Nat.{_≤_, _<_};
-ghost use Rattle.member.specs.Opening.{largest};
-ghost use Rattle.schedule.specs.Schedule.{Schedule, voteOf, crashOf, reachOf};
-ghost use Rattle.schedule.specs.Questions.{reachRight, processQuestion};
+ghost use Prim.Native.Nat.{_+_, _^_};
+ghost use lib.Dec.{ltb, leb};
+ghost use Rattle.schedule.specs.Questions.{reachRight, entryQuestion};
 use crate::is_named;
+
+// Whether a reach names only processes 1 to n. There are 32 bits, so from 32 on every reach does.
+fn is_within_size(reach: u32, n: usize) -> bool
+    ensures tested { λ r. ⌜ r ≡ ltb reach (2 ^ n) ⌝ }
+{
+    if 31 < n {
+        return true;
+    }
+    if 0 < reach >> (n as u32) {
+        return false;
+    }
+    true
+}
 
 // Whether a reach names only processes 1 to n, never its own process, and nobody where the crash
 // round is 0.
 fn is_reach_right(n: usize, i: usize, crash: u8, reach: u32) -> bool
-    requires size { ⌜ n ≤ largest ⌝ }
-    ensures tested { λ r. ⌜ ((s : Schedule) → s .n ≡ n → crashOf s i ≡ crash → reachOf s i ≡ reach → r ≡ reachRight s i) ⌝ }
+    ensures tested { λ r. ⌜ r ≡ reachRight n i crash reach ⌝ }
 {
-    if 0 < (reach as u64) >> (n as u64) {
+    if !is_within_size(reach, n) {
         return false;
     }
     if is_named(reach, i) {
@@ -25,16 +36,27 @@ fn is_reach_right(n: usize, i: usize, crash: u8, reach: u32) -> bool
     reach == 0
 }
 
+// Whether a crash round is at most t + 1.
+fn is_round(crash: usize, t: usize) -> bool
+    ensures tested { λ r. ⌜ r ≡ leb crash (t + 1) ⌝ }
+{
+    if crash <= t {
+        return true;
+    }
+    if 1 < crash - t {
+        return false;
+    }
+    true
+}
+
 // The number of the first question of a process whose answer is no, or 0.
 pub fn process_question(n: usize, t: usize, i: usize, vote: u8, crash: u8, reach: u32) -> u8
-    requires sizes { ⌜ (t < n) × (n ≤ largest) ⌝ }
-    ensures asked { λ r. ⌜ ((s : Schedule) → s .n ≡ n → s .t ≡ t → voteOf s i ≡ vote → crashOf s i ≡ crash → reachOf s i ≡ reach → r ≡ processQuestion s i) ⌝ }
+    ensures asked { λ r. ⌜ r ≡ entryQuestion n t i vote crash reach ⌝ }
 {
-    let last = t + 1;
     if 1 < vote {
         return 4;
     }
-    if last < crash as usize {
+    if !is_round(crash as usize, t) {
         return 5;
     }
     if !is_reach_right(n, i, crash, reach) {

@@ -1,10 +1,8 @@
 // The tables of a schedule: their lengths, and the questions of the processes in order.
 ghost use mathlib.Core.Path.{_≡_};
 ghost use mathlib.Core.Bool.{_&&_};
-ghost use Prim.Native.Nat.{_≤_, _<_};
 ghost use lib.ListN.{length};
 ghost use Rattle.laws.specs.Answer.{andThen, askEach};
-ghost use Rattle.member.specs.Opening.{largest};
 ghost use Rattle.schedule.specs.Schedule.{Schedule, scheduleOf};
 ghost use Rattle.schedule.specs.Questions.{tablesLong, processQuestion};
 use crate::process::process_question;
@@ -40,7 +38,6 @@ fn first_no(found: u8, next: u8) -> u8
 
 // The number of the first question of the processes in order whose answer is no, or 0.
 pub fn processes_question(n: usize, t: usize, votes: &[u8], crashes: &[u8], reaches: &[u32]) -> u8
-    requires sizes { ⌜ (t < n) × (n ≤ largest) ⌝ }
     requires long { ⌜ (length (now votes) ≡ n) × (length (now crashes) ≡ n) × (length (now reaches) ≡ n) ⌝ }
     ensures asked { λ r. ⌜ r ≡ askEach n (processQuestion (scheduleOf n t (now (votes .entry)) (now (crashes .entry)) (now (reaches .entry)))) ⌝ }
 {

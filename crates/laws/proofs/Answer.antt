@@ -1,17 +1,18 @@
 -- Questions that were passed, and the answer that follows. Assumes nothing.
 use mathlib.Core.Path.{_≡_, refl, sym, ap, _∙_}
-use mathlib.Core.Logic.{inl, inr}
+use mathlib.Core.Logic.{_⊎_, inl, inr}
 use mathlib.Core.Bool.{Bool, true, false, false≢true}
 use Prim.Native.Nat.{ℕ, zero, suc, _+_, _<_}
+use native.Mathlib.Nat.{not-suc-le-zero}
 use native.Mathlib.Numerals.{add-one}
 use native.Mathlib.Omega.{arith}
 use borrow.Author.Count.{below-none}
 use borrow.Author.Tests.{eqb-true, eqb-false, eq-eqb, ne-eqb}
 use lib.Dec.{eqb}
 use Rattle.laws.specs.Below.{fold}
-use Rattle.laws.specs.Answer.{ask, andThen, askEach, Answer, accepted, refused, answer}
+use Rattle.laws.specs.Answer.{ask, andThen, askEach, Answer, accepted, refused, answer, andNext, nextEach}
 use Rattle.laws.proofs.Test.{true-or-false, cond-true, cond-false}
-use Rattle.laws.proofs.Counting.{below-or-top}
+use Rattle.laws.proofs.Counting.{Some, split, below-or-top}
 
 -- Where a row of questions comes to 0, the first is answered by yes, and the others come to 0.
 pub passed : (b : Bool) (k others : ℕ) → 0 < k → ask b k others ≡ 0 → (b ≡ true) × (others ≡ 0)
@@ -75,3 +76,67 @@ module _ {A B : Type 0} where
       isAccepted : Answer A B → Bool
       isAccepted (accepted value) = true
       isAccepted (refused number back) = false
+
+-- Rows of questions that give something back with their first no, one after the other.
+module _ {B : Type 0} where
+  module _ {A : Type 0} where
+    pub and-next-passes : (p : Answer (Unit {0}) B) (others : Answer A B) → p ≡ accepted tt → andNext p others ≡ others
+    unfolding andNext
+    and-next-passes p others e = rw e
+
+    pub and-next-refused : (p : Answer (Unit {0}) B) (others : Answer A B) (number : ℕ) (back : B) → p ≡ refused number back → andNext p others ≡ refused number back
+    unfolding andNext
+    and-next-refused p others number back e = rw e
+
+    -- two rows that end in an answer were both passed
+    pub and-next-accepted : (p : Answer (Unit {0}) B) (others : Answer A B) (value : A) → andNext p others ≡ accepted value → (p ≡ accepted tt) × (others ≡ accepted value)
+    unfolding andNext
+    and-next-accepted (accepted _) others value e = (refl, e)
+    and-next-accepted (refused number back) others value e = absurd (not-accepted e)
+
+    -- of two rows that end in a refusal, one refused
+    pub and-next-either : (p : Answer (Unit {0}) B) (others : Answer A B) (number : ℕ) (back : B) → andNext p others ≡ refused number back
+        → (p ≡ refused number back) ⊎ (others ≡ refused number back)
+    unfolding andNext
+    and-next-either (accepted _) others number back e = inr e
+    and-next-either (refused m b) others number back e = inl (ap refusal e)
+      where
+        -- the same refusal, of a row of questions
+        refusal : Answer A B → Answer (Unit {0}) B
+        refusal (accepted value) = accepted tt
+        refusal (refused number back) = refused number back
+
+  pub next-each-passes : (n : ℕ) (q : ℕ → Answer (Unit {0}) B) → ((i : ℕ) → i < n → q i ≡ accepted tt) → nextEach n q ≡ accepted tt
+  unfolding nextEach fold
+  next-each-passes zero q h = refl
+  next-each-passes (suc n) q h = and-next-passes (nextEach n q) (q n) (next-each-passes n q (λ i l. h i (omega arith))) ∙ h n (omega arith)
+
+  pub next-each-passed : (n : ℕ) (q : ℕ → Answer (Unit {0}) B) → nextEach n q ≡ accepted tt → (i : ℕ) → i < n → q i ≡ accepted tt
+  unfolding nextEach fold
+  next-each-passed zero q e = below-none (λ i. q i ≡ accepted tt)
+  next-each-passed (suc n) q e =
+      let p = and-next-accepted (nextEach n q) (q n) tt e in
+      below-or-top (λ i. q i ≡ accepted tt) n (next-each-passed n q (p .0)) (p .1)
+
+  -- the first row that refuses is the answer of all
+  pub next-each-refused : (n : ℕ) (q : ℕ → Answer (Unit {0}) B) (i number : ℕ) (back : B) → i < n → ((k : ℕ) → k < i → q k ≡ accepted tt)
+      → q i ≡ refused number back → nextEach n q ≡ refused number back
+  unfolding nextEach fold
+  next-each-refused zero q i number back l h e = absurd (not-suc-le-zero l)
+  next-each-refused (suc n) q i number back l h e =
+      elim (split n i) [
+        | inl a ↦
+            let at-n : i ≡ n = omega arith in
+            and-next-passes (nextEach n q) (q n) (next-each-passes n q (λ k b. h k (omega arith))) ∙ ap q (sym at-n) ∙ e
+        | inr a ↦ and-next-refused (nextEach n q) (q n) number back (next-each-refused n q i number back a h e)
+      ]
+
+  -- and where all end in a refusal, it is that of one of them
+  pub next-each-some : (n : ℕ) (q : ℕ → Answer (Unit {0}) B) (number : ℕ) (back : B) → nextEach n q ≡ refused number back → Some n (λ i. q i ≡ refused number back)
+  unfolding nextEach fold
+  next-each-some zero q number back e = absurd (not-accepted (sym e))
+  next-each-some (suc n) q number back e =
+      elim (and-next-either (nextEach n q) (q n) number back e) [
+        | inl a ↦ let s = next-each-some n q number back a in (s .0, (let l : s .0 < n = s .1 in omega arith), s .2)
+        | inr a ↦ (n, omega arith, a)
+      ]

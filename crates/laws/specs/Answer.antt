@@ -27,3 +27,13 @@ pub data Answer (A B : Type 0) : Type 0 where
 -- the answer of a call whose questions come to q
 unfoldable pub answer : {A B : Type 0} → ℕ → A → B → Answer A B
 answer q value back = cond (eqb q 0) (accepted value) (refused q back)
+
+-- One row of questions, which gives b back with its first no, and those after it.
+unfoldable pub andNext : {A B : Type 0} → Answer (Unit {0}) B → Answer A B → Answer A B
+andNext (accepted _) others = others
+andNext (refused number back) others = refused number back
+
+-- The rows of questions q 0, q 1, .., q (n - 1), one after the other.
+unfoldable pub nextEach : {B : Type 0} → ℕ → (ℕ → Answer (Unit {0}) B) → Answer (Unit {0}) B
+unfolding fold andNext
+nextEach n q = fold n (λ i before. andNext before (q i)) (accepted tt)

@@ -11,7 +11,7 @@ use Rattle.laws.specs.Answer.{ask, andThen}
 use Rattle.laws.proofs.Test.{and-left, and-right, within-low, within-high, within-is}
 use Rattle.laws.proofs.Answer.{passed, and-then-passed, ask-each-passed, ask-each-passes}
 use Rattle.schedule.specs.Schedule.{Schedule, names, voteOf, crashOf, reachOf, crashCount}
-use Rattle.schedule.specs.Questions.{tablesLong, reachRight, processQuestion, question, ProcessRules, Accepted}
+use Rattle.schedule.specs.Questions.{tablesLong, reachRight, entryQuestion, processQuestion, question, ProcessRules, Accepted}
 
 -- `not a || b` says that b holds where a does.
 implied : (a b : Bool) → not a || b ≡ true → a ≡ true → b ≡ true
@@ -24,22 +24,22 @@ implies false b h = refl
 
 module _ (s : Schedule) where
   module _ (i : ℕ) where
-    reach-below : reachRight s i ≡ true → reachOf s i < 2 ^ s .n
+    reach-below : reachRight (s .n) i (crashOf s i) (reachOf s i) ≡ true → reachOf s i < 2 ^ s .n
     unfolding reachRight
     reach-below e = ltb-true _ _ (and-left _ _ e)
 
-    reach-others : reachRight s i ≡ true → names (reachOf s i) i ≡ false
+    reach-others : reachRight (s .n) i (crashOf s i) (reachOf s i) ≡ true → names (reachOf s i) i ≡ false
     unfolding reachRight
     reach-others e = not-true _ (and-left _ _ (and-right (ltb (reachOf s i) (2 ^ s .n)) _ e))
 
-    reach-none : reachRight s i ≡ true → crashOf s i ≡ 0 → reachOf s i ≡ 0
+    reach-none : reachRight (s .n) i (crashOf s i) (reachOf s i) ≡ true → crashOf s i ≡ 0 → reachOf s i ≡ 0
     unfolding reachRight
     reach-none e z =
         let crashing = and-right (not (names (reachOf s i) i)) _ (and-right (ltb (reachOf s i) (2 ^ s .n)) _ e) in
         eqb-true _ _ (implied (eqb (crashOf s i) 0) _ crashing (eq-eqb _ _ z))
 
     pub process-question-rules : processQuestion s i ≡ 0 → ProcessRules s i
-    unfolding processQuestion
+    unfolding entryQuestion
     process-question-rules e =
         let p4 = passed _ 4 _ (omega arith) e in
         let p5 = passed _ 5 _ (omega arith) (p4 .1) in
@@ -52,7 +52,7 @@ module _ (s : Schedule) where
           never = reach-none (p6 .0);
         }
 
-    rules-reach-right : ProcessRules s i → reachRight s i ≡ true
+    rules-reach-right : ProcessRules s i → reachRight (s .n) i (crashOf s i) (reachOf s i) ≡ true
     unfolding reachRight
     rules-reach-right r =
         rw (
@@ -62,7 +62,7 @@ module _ (s : Schedule) where
         )
 
     pub process-rules-question : ProcessRules s i → processQuestion s i ≡ 0
-    unfolding processQuestion ask
+    unfolding entryQuestion ask
     process-rules-question r = rw (le-leb (voteOf s i) 1 (r .vote), le-leb (crashOf s i) (s .t + 1) (r .crash), rules-reach-right r)
 
   pub table-lengths : tablesLong s ≡ true → (length (s .votes) ≡ s .n) × (length (s .crashes) ≡ s .n) × (length (s .reaches) ≡ s .n)

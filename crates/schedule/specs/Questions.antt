@@ -8,22 +8,26 @@ use Rattle.laws.specs.Answer.{ask, andThen, askEach}
 use Rattle.member.specs.Opening.{sizeQuestions}
 use Rattle.schedule.specs.Schedule.{Schedule, names, voteOf, crashOf, reachOf, crashCount}
 
+-- "A reach names only processes 1 to n, never its own process, and nobody where the crash round is 0.": of the process at place i
+unfoldable pub reachRight : ℕ → ℕ → ℕ → ℕ → Bool
+reachRight n i crash reach = ltb reach (2 ^ n) && (not (names reach i) && (not (eqb crash 0) || eqb reach 0))
+
+-- "vote 0 or 1? 4; crash round at most t + 1? 5; reach as ruled above? 6", of the process at place i
+unfoldable pub entryQuestion : ℕ → ℕ → ℕ → ℕ → ℕ → ℕ → ℕ
+entryQuestion n t i vote crash reach =
+    ask (leb vote 1) 4
+    (ask (leb crash (t + 1)) 5
+    (ask (reachRight n i crash reach) 6
+    0))
+
 module _ (s : Schedule) where
   -- "Each of the three input .. tables n long?"
   unfoldable pub tablesLong : Bool
   tablesLong = eqb (length (s .votes)) (s .n) && (eqb (length (s .crashes)) (s .n) && eqb (length (s .reaches)) (s .n))
 
-  -- "A reach names only processes 1 to n, never its own process, and nobody where the crash round is 0."
-  unfoldable pub reachRight : ℕ → Bool
-  reachRight i = ltb (reachOf s i) (2 ^ s .n) && (not (names (reachOf s i) i) && (not (eqb (crashOf s i) 0) || eqb (reachOf s i) 0))
-
-  -- "vote 0 or 1? 4; crash round at most t + 1? 5; reach as ruled above? 6", of the process at place i
-  unfoldable pub processQuestion : ℕ → ℕ
-  processQuestion i =
-      ask (leb (voteOf s i) 1) 4
-      (ask (leb (crashOf s i) (s .t + 1)) 5
-      (ask (reachRight i) 6
-      0))
+  -- "For each process in order": questions 4 to 6 of the process at place i
+  abbrev pub processQuestion : ℕ → ℕ
+  processQuestion i = entryQuestion (s .n) (s .t) i (voteOf s i) (crashOf s i) (reachOf s i)
 
   -- Questions 1 to 7 in document 01's order. `limit` is the largest n that is accepted; `answers` tells whether the answer tables that the
   -- call takes are n long, and is true for a call that takes none.

@@ -50,7 +50,7 @@ loop-less c = omega arith
 loop-again : tie.Need-loop-again Inv-loop μ-loop
 loop-again c =
     let found = c .before .before .before .before .before .before .loop .inv .1 in
-    (omega arith, c .first-no .ensures ∙ ap₂ andThen found (c .before .process-question .ensures _ refl refl refl refl refl) ∙ sym (ask-each-step _ _))
+    (omega arith, c .first-no .ensures ∙ ap₂ andThen found (c .before .process-question .ensures) ∙ sym (ask-each-step _ _))
 
 returns : tie.Need-returns Inv-loop μ-loop
 returns c =

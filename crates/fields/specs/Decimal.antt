@@ -1,0 +1,23 @@
+-- Numbers as digits: "numbers have .. digits without a leading zero (zero itself is the one digit 0)".
+use Prim.Native.Nat.{ℕ, zero, suc, _+_, _/_, _%_}
+use mathlib.Core.List.{List, [], _∷_, _++_}
+use mathlib.Core.Bool.{Bool, cond}
+use lib.Dec.{ltb}
+use Rattle.laws.specs.Test.{within}
+
+-- the letter of a digit: `0` is byte 48
+abbrev pub letter : ℕ → ℕ
+letter d = 48 + d
+
+-- whether a byte is the letter of a digit
+unfoldable pub isDigit : ℕ → Bool
+isDigit b = within (letter 0) b (letter 9)
+
+-- the digits of x in at most steps + 1 places
+unfoldable pub decimalIn : ℕ → ℕ → List ℕ
+decimalIn zero x = letter x ∷ []
+decimalIn (suc steps) x = cond (ltb x 10) (letter x ∷ []) (decimalIn steps (x / 10) ++ (letter (x % 10) ∷ []))
+
+-- the digits of x: x + 1 places are enough for all of them
+unfoldable pub decimal : ℕ → List ℕ
+decimal x = decimalIn x x

@@ -1,0 +1,3 @@
+pub mod Found
+pub mod Decimal
+pub mod Fields

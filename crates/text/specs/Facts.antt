@@ -1,0 +1,41 @@
+-- What holds of reading and of what is printed. Proved in proofs/Theorem.antt:
+-- `accepted-texts : (limit most : ℕ) → limit ≤ 99 → TextPromises limit most`. Assumes nothing.
+use Prim.Native.Nat.{ℕ, _+_, _≤_}
+use mathlib.Core.Path.{_≡_}
+use mathlib.Core.List.{List}
+use mathlib.Core.Bool.{true}
+use lib.ListN.{length}
+use Rattle.laws.specs.Answer.{accepted, refused}
+use Rattle.lines.specs.Lines.{lineOf}
+use Rattle.member.specs.Opening.{largest}
+use Rattle.schedule.specs.Schedule.{Schedule}
+use Rattle.schedule.specs.Questions.{question}
+use Rattle.run.specs.Report.{Report}
+use Rattle.run.specs.Given.{GivenDemand3}
+use Rattle.text.specs.Written.{textOf}
+use Rattle.text.specs.Reading.{longest, sizesIn, textAnswer}
+use Rattle.text.specs.Output.{reportText, outputOf}
+
+-- the bytes print what is given for the schedule, and what is given keeps demand 3
+pub record PrintsDemand3 (s : Schedule) (bytes : List ℕ) : Type 0 where
+  pub given : Report
+  pub prints : bytes ≡ reportText (s .n) (s .t) given
+  pub demand-3 : GivenDemand3 s given
+
+-- `limit` is the largest n that is accepted, `most` how many bytes a text may have.
+pub record TextPromises (limit most : ℕ) : Type 0 where
+  -- an accepted text is read as an accepted schedule, and is the text of that schedule
+  pub accepted-schedule : (text : List ℕ) (s : Schedule) → textAnswer text limit most ≡ accepted s → question s limit true ≡ 0
+  pub written : (text : List ℕ) (s : Schedule) → textAnswer text limit most ≡ accepted s → text ≡ textOf s
+  -- the text of an accepted schedule, if it is not too long, is read back as that schedule
+  pub reads-back : (s : Schedule) → question s limit true ≡ 0 → length (textOf s) ≤ most → textAnswer (textOf s) limit most ≡ accepted s
+  -- a refused text is refused on line n + 4 at most, where n is the one that was read, and the refused line is not longer than a text may be
+  pub line-bound : (text : List ℕ) (number k : ℕ) → textAnswer text limit most ≡ refused number k → k ≤ sizesIn text .n + 4
+  pub line-short : (text : List ℕ) (number k : ℕ) → textAnswer text limit most ≡ refused number k → length (lineOf k text) ≤ most
+  -- demand 3 of what is printed for an accepted text
+  pub demand-3 : (text : List ℕ) (s : Schedule) → textAnswer text limit most ≡ accepted s → PrintsDemand3 s (outputOf text limit most)
+
+-- The text of an accepted schedule of at most 32 processes has at most 2,048 bytes, so it is read back. Proved in proofs/Theorem.antt:
+-- `all-read-back : AllReadBack`.
+abbrev pub AllReadBack : Type 0
+AllReadBack = (s : Schedule) → question s largest true ≡ 0 → textAnswer (textOf s) largest longest ≡ accepted s

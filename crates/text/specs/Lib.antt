@@ -1,0 +1,5 @@
+pub mod Forms
+pub mod Written
+pub mod Reading
+pub mod Output
+pub mod Facts

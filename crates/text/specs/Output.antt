@@ -1,0 +1,66 @@
+-- The report as bytes: what the program prints for a text, accepted or refused.
+use Prim.Native.Nat.{ℕ, _+_}
+use mathlib.Core.List.{List, [], _∷_, _++_}
+use mathlib.Core.Bool.{cond}
+use lib.ListN.{getD}
+use lib.Dec.{eqb}
+use Rattle.laws.specs.Answer.{Answer, accepted, refused}
+use Rattle.lines.specs.Lines.{lf, lineOf}
+use Rattle.fields.specs.Decimal.{letter}
+use Rattle.fields.specs.Fields.{space}
+use Rattle.schedule.specs.Schedule.{Schedule}
+use Rattle.run.specs.Protocol.{fcwfa}
+use Rattle.run.specs.Report.{Report, report}
+use Rattle.text.specs.Written.{field, eachLine}
+use Rattle.text.specs.Reading.{textAnswer}
+
+-- `n t f first last messages`, with its LF
+abbrev pub countsHeading : List ℕ
+countsHeading = 110 ∷ 32 ∷ 116 ∷ 32 ∷ 102 ∷ 32 ∷ 102 ∷ 105 ∷ 114 ∷ 115 ∷ 116 ∷ 32 ∷ 108 ∷ 97 ∷ 115 ∷ 116 ∷ 32 ∷ 109 ∷ 101 ∷ 115 ∷ 115 ∷ 97 ∷ 103 ∷ 101 ∷ 115 ∷ 10 ∷ []
+
+-- `id decision round`, with its LF
+abbrev pub decisionsHeading : List ℕ
+decisionsHeading = 105 ∷ 100 ∷ 32 ∷ 100 ∷ 101 ∷ 99 ∷ 105 ∷ 115 ∷ 105 ∷ 111 ∷ 110 ∷ 32 ∷ 114 ∷ 111 ∷ 117 ∷ 110 ∷ 100 ∷ 10 ∷ []
+
+-- `refused line`, with its LF
+abbrev pub refusedHeading : List ℕ
+refusedHeading = 114 ∷ 101 ∷ 102 ∷ 117 ∷ 115 ∷ 101 ∷ 100 ∷ 32 ∷ 108 ∷ 105 ∷ 110 ∷ 101 ∷ 10 ∷ []
+
+-- "`-` is "none"", else the decision's digit
+unfoldable pub decisionLetter : ℕ → ℕ
+decisionLetter decision = cond (eqb decision 2) 45 (letter decision)
+
+-- the line of values under the first heading
+unfoldable pub countsLine : ℕ → ℕ → Report → List ℕ
+countsLine n t given =
+    field n space
+    ++ (field t space
+    ++ (field (given .f) space
+    ++ (field (given .first) space
+    ++ (field (given .last) space
+    ++ field (given .messages) lf))))
+
+-- the line of the process at place i, whose number is i + 1
+unfoldable pub decisionLine : ℕ → ℕ → ℕ → List ℕ
+decisionLine i decision round = field (i + 1) space ++ ((decisionLetter decision ∷ space ∷ []) ++ field round lf)
+
+-- what is printed of what the bench gives for a schedule of n processes that is set up to bear t crashes
+unfoldable pub reportText : ℕ → ℕ → Report → List ℕ
+reportText n t given =
+    countsHeading
+    ++ (countsLine n t given
+    ++ (decisionsHeading
+    ++ eachLine n (λ i. decisionLine i (getD (given .decisions) i 2) (getD (given .rounds) i 0))))
+
+-- "A refused text prints three lines: `refused line`; the number and the line's number split by one space; that line itself (empty for line 0)."
+unfoldable pub refusalText : ℕ → ℕ → List ℕ → List ℕ
+refusalText number k line = refusedHeading ++ (field number space ++ (field k lf ++ (line ++ (lf ∷ []))))
+
+module _ (text : List ℕ) where
+  abbrev pub printed : Answer Schedule ℕ → List ℕ
+  printed (accepted s) = reportText (s .n) (s .t) (report fcwfa s)
+  printed (refused number k) = refusalText number k (lineOf k text)
+
+  -- the whole output of a text, whatever its bytes and its length
+  unfoldable pub outputOf : ℕ → ℕ → List ℕ
+  outputOf limit most = printed (textAnswer text limit most)
