@@ -44,13 +44,17 @@ countsLine n t given =
 unfoldable pub decisionLine : ℕ → ℕ → ℕ → List ℕ
 decisionLine i decision round = field (i + 1) space ++ ((decisionLetter decision ∷ space ∷ []) ++ field round lf)
 
+-- the lines of n processes, from their decisions and rounds
+unfoldable pub decisionLines : ℕ → List ℕ → List ℕ → List ℕ
+decisionLines n decisions rounds = eachLine n (λ i. decisionLine i (getD decisions i 2) (getD rounds i 0))
+
 -- what is printed of what the bench gives for a schedule of n processes that is set up to bear t crashes
 unfoldable pub reportText : ℕ → ℕ → Report → List ℕ
 reportText n t given =
     countsHeading
     ++ (countsLine n t given
     ++ (decisionsHeading
-    ++ eachLine n (λ i. decisionLine i (getD (given .decisions) i 2) (getD (given .rounds) i 0))))
+    ++ decisionLines n (given .decisions) (given .rounds)))
 
 -- "A refused text prints three lines: `refused line`; the number and the line's number split by one space; that line itself (empty for line 0)."
 unfoldable pub refusalText : ℕ → ℕ → List ℕ → List ℕ

@@ -1,0 +1,49 @@
+-- What `read` answers, and what the three lent tables hold after the call.
+use Prim.Native.Nat.{ℕ}
+use mathlib.Core.List.{List, _++_}
+use mathlib.Core.Bool.{Bool, _&&_}
+use lib.ListN.{length, drop}
+use lib.Dec.{eqb}
+use Rattle.laws.specs.Answer.{ask, Answer, accepted, refused, andNext}
+use Rattle.schedule.specs.Schedule.{Schedule}
+use Rattle.text.specs.Forms.{Sizes}
+use Rattle.text.specs.Reading.{onLine, sizesIn, scheduleIn, textQuestions}
+use Rattle.reader.specs.declared.Reading.{Reading}
+use Rattle.reader.specs.declared.Reading.the-variants.{Read, Refused}
+
+-- for each case of the answer's enum document 01's number and values: a refusal gives its number and the line's
+abbrev pub readingIs : Reading → Answer Sizes ℕ
+readingIs (Read n t) = accepted (record { n = n; t = t })
+readingIs (Refused number line) = refused number line
+
+-- "three tables of 32?"
+unfoldable pub tablesOf : ℕ → List ℕ → List ℕ → List ℕ → Bool
+tablesOf size votes crashes reaches = eqb (length votes) size && (eqb (length crashes) size && eqb (length reaches) size)
+
+-- what is given if every question is answered by yes, or else what is kept
+abbrev pub givenOr : {A B : Type 0} → Answer (Unit {0}) B → A → A → A
+givenOr (accepted _) given kept = given
+givenOr (refused number line) given kept = kept
+
+-- A call with a text and three tables: `limit` is the largest n that is accepted and the tables' size, `most` how many bytes a text may have.
+module _ (limit most : ℕ) (text votes crashes reaches : List ℕ) where
+  -- "Text: three tables of 32? 3, line 0.", and then the questions of the text
+  unfoldable pub readQuestions : Answer (Unit {0}) ℕ
+  readQuestions = andNext (onLine 0 (ask (tablesOf limit votes crashes reaches) 3 0)) (textQuestions text limit most)
+
+  -- n and t, or the number and the line of the first question whose answer is no
+  unfoldable pub readAnswer : Answer Sizes ℕ
+  readAnswer = andNext readQuestions (accepted (sizesIn text))
+
+  -- A table after the call: "The reader fills three lent tables .. and leaves entries above n unchanged." A refused text changes none.
+  unfoldable pub tableAfter : List ℕ → List ℕ → List ℕ
+  tableAfter read lent = givenOr readQuestions (read ++ drop (length read) lent) lent
+
+  abbrev pub votesAfter : List ℕ
+  votesAfter = tableAfter (scheduleIn text .votes) votes
+
+  abbrev pub crashesAfter : List ℕ
+  crashesAfter = tableAfter (scheduleIn text .crashes) crashes
+
+  abbrev pub reachesAfter : List ℕ
+  reachesAfter = tableAfter (scheduleIn text .reaches) reaches

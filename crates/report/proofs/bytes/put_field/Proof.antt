@@ -1,0 +1,58 @@
+use mathlib.Core.Path.{_∙_}
+use Rattle.text.specs.Written.{field}
+use Rattle.report.proofs.Digits.{digits-decimal}
+use Rattle.report.proofs.Buffer.{writes-same, writes-more}
+use Rattle.fields.specs.Decimal.{decimal}
+use borrow.Author.Needs.{needs}
+use Rattle.report.proofs.bytes.put_field.Statement.{statement}
+use Rattle.report.proofs.bytes.put_field.Tie as tie
+use Rattle.report.proofs.bytes.put_field.Reads as reads
+use Rattle.report.proofs.bytes.put_field.Lts as lts
+use Rattle.io.proofs.decimal.Reads as decimal-reads
+use Rattle.report.proofs.bytes.put.Reads as put-reads
+use Rattle.report.proofs.bytes.put_byte.Reads as put-byte-reads
+
+-- src/bytes.rt:36:9
+decimal-requires : tie.Need-decimal-requires
+decimal-requires c κs = search needs
+
+-- src/bytes.rt:37:32
+array-share-prefix-digits : tie.Need-array-share-prefix-digits
+array-share-prefix-digits c = search needs
+
+-- src/bytes.rt:37:32
+slice-aggregate-put : tie.Need-slice-aggregate-put
+slice-aggregate-put c = search needs
+
+-- src/bytes.rt:37:9
+put-requires : tie.Need-put-requires
+put-requires c κs = search needs
+
+-- src/bytes.rt:38:5
+put-byte-requires : tie.Need-put-byte-requires
+put-byte-requires c κs = search needs
+
+-- src/bytes.rt:32:1
+same-length : tie.Need-same-length
+same-length c = search needs
+
+-- src/bytes.rt:32:1
+returns : tie.Need-returns
+unfolding field
+returns c =
+    let d = c .before .before .before .before .before .before .before .before .before in
+    let number = d .before .before .before .args .number in
+    let digits = d .decimal .ensures .1 .1 ∙ digits-decimal _ number (d .decimal .ensures .1 .0) in
+    writes-more (decimal number) _ (writes-same digits (c .before .before .before .before .before .before .put .ensures)) (c .before .before .put-byte .ensures)
+
+pub put-field-spec : {M : Type 1} → statement M
+put-field-spec =
+    tie.close
+    (tie.spec
+    decimal-requires
+    array-share-prefix-digits
+    slice-aggregate-put
+    put-requires
+    put-byte-requires
+    same-length
+    returns)

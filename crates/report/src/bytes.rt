@@ -1,0 +1,39 @@
+// Writing bytes into a lent buffer, one part after the other. Each function takes the place of the
+// next byte and answers the place after what it wrote; what does not fit is left out.
+ghost use mathlib.Core.List.{_∷_, []};
+ghost use Rattle.text.specs.Written.{field};
+ghost use Rattle.report.specs.Bytes.{Writes};
+
+// Writes one byte.
+pub fn put_byte(buffer: &mut [u8], at: usize, byte: u8) -> usize
+    ensures written { λ r. ⌜ Writes (now (buffer .entry)) at (now (buffer .exit)) r (byte ∷ []) ⌝ }
+{
+    if at < buffer.len() {
+        buffer[at] = byte;
+        return at + 1;
+    }
+    at
+}
+
+// Writes all bytes of a part.
+pub fn put(buffer: &mut [u8], at: usize, part: &[u8]) -> usize
+    ensures written { λ r. ⌜ Writes (now (buffer .entry)) at (now (buffer .exit)) r (now (part .entry)) ⌝ }
+{
+    let mut next = at;
+    let mut i: usize = 0;
+    while i < part.len() {
+        next = put_byte(buffer, next, part[i]);
+        i += 1;
+    }
+    next
+}
+
+// Writes a number in decimal digits, and the byte that ends its field.
+pub fn put_field(buffer: &mut [u8], at: usize, number: usize, end: u8) -> usize
+    ensures written { λ r. ⌜ Writes (now (buffer .entry)) at (now (buffer .exit)) r (field number end) ⌝ }
+{
+    let mut digits = [0u8; 20];
+    let k = io::decimal(number as u64, &mut digits);
+    let next = put(buffer, at, &digits[..k]);
+    put_byte(buffer, next, end)
+}

@@ -1,0 +1,96 @@
+// The lines of a report, accepted or refused.
+ghost use mathlib.Core.Path.{_≡_};
+ghost use mathlib.Core.List.{List};
+ghost use Prim.Native.Nat.{ℕ, _≤_};
+ghost use lib.ListN.{length};
+ghost use Rattle.simulator.specs.Answers.{givenBy};
+ghost use Rattle.text.specs.Output.{decisionLetter, decisionLine, decisionLines, countsLine, reportText, refusalText};
+ghost use Rattle.report.specs.Bytes.{AllDecisions, Writes};
+use crate::bytes::put;
+use crate::bytes::put_byte;
+use crate::bytes::put_field;
+use simulator::Counts;
+
+const SPACE: u8 = 32;
+
+const LF: u8 = 10;
+
+const DASH: u8 = 45;
+
+// The letter of a decision that is 0 or 1, and `-` for 2, none.
+fn decision_letter(decision: u8) -> u8
+    requires one { ⌜ decision ≤ 2 ⌝ }
+    ensures is { λ r. ⌜ r ≡ decisionLetter decision ⌝ }
+{
+    if decision == 2 {
+        return DASH;
+    }
+    48 + decision
+}
+
+// Writes the line of the process at place i.
+fn put_decision(buffer: &mut [u8], at: usize, i: usize, decision: u8, round: u8) -> usize
+    requires small { ⌜ (i ≤ 32) × (decision ≤ 2) ⌝ }
+    ensures written { λ r. ⌜ Writes (now (buffer .entry)) at (now (buffer .exit)) r (decisionLine i decision round) ⌝ }
+{
+    let own = put_field(buffer, at, i + 1, SPACE);
+    let decided = put_byte(buffer, own, decision_letter(decision));
+    let space = put_byte(buffer, decided, SPACE);
+    put_field(buffer, space, round as usize, LF)
+}
+
+// Writes the lines of the processes in order.
+fn put_decisions(buffer: &mut [u8], at: usize, decisions: &[u8], rounds: &[u8]) -> usize
+    requires size { ⌜ (length (now decisions) ≤ 32) × (length (now rounds) ≡ length (now decisions)) ⌝ }
+    requires values { ⌜ AllDecisions (now decisions) ⌝ }
+    ensures written { λ r. ⌜ Writes (now (buffer .entry)) at (now (buffer .exit)) r (decisionLines (length (now (decisions .entry))) (now (decisions .entry)) (now (rounds .entry))) ⌝ }
+{
+    let mut next = at;
+    let mut i: usize = 0;
+    while i < decisions.len() {
+        next = put_decision(buffer, next, i, decisions[i], rounds[i]);
+        i += 1;
+    }
+    next
+}
+
+// Writes the line of n, t and the counts.
+fn put_counts(buffer: &mut [u8], at: usize, n: usize, t: usize, counts: Counts) -> usize
+    ensures written { λ r. ⌜ ((decisions rounds : List ℕ) → Writes (now (buffer .entry)) at (now (buffer .exit)) r (countsLine n t (givenBy counts decisions rounds))) ⌝ }
+{
+    let after_n = put_field(buffer, at, n, SPACE);
+    let after_t = put_field(buffer, after_n, t, SPACE);
+    let after_f = put_field(buffer, after_t, counts.f, SPACE);
+    let after_first = put_field(buffer, after_f, counts.first, SPACE);
+    let after_last = put_field(buffer, after_first, counts.last, SPACE);
+    put_field(buffer, after_last, counts.messages, LF)
+}
+
+// Writes what the bench gives for an accepted schedule of n processes that bears t crashes.
+pub fn put_report(
+    buffer: &mut [u8],
+    t: usize,
+    counts: Counts,
+    decisions: &[u8],
+    rounds: &[u8],
+) -> usize
+    requires size { ⌜ (length (now decisions) ≤ 32) × (length (now rounds) ≡ length (now decisions)) ⌝ }
+    requires values { ⌜ AllDecisions (now decisions) ⌝ }
+    ensures written { λ r. ⌜ Writes (now (buffer .entry)) 0 (now (buffer .exit)) r (reportText (length (now (decisions .entry))) t (givenBy counts (now (decisions .entry)) (now (rounds .entry)))) ⌝ }
+{
+    let heading = put(buffer, 0, b"n t f first last messages\n");
+    let values = put_counts(buffer, heading, decisions.len(), t, counts);
+    let names = put(buffer, values, b"id decision round\n");
+    put_decisions(buffer, names, decisions, rounds)
+}
+
+// Writes the three lines of a refusal: its heading, the number and the line's number, and the line.
+pub fn put_refusal(buffer: &mut [u8], number: u8, k: usize, line: &[u8]) -> usize
+    ensures written { λ r. ⌜ Writes (now (buffer .entry)) 0 (now (buffer .exit)) r (refusalText number k (now (line .entry))) ⌝ }
+{
+    let heading = put(buffer, 0, b"refused line\n");
+    let refused = put_field(buffer, heading, number as usize, SPACE);
+    let numbered = put_field(buffer, refused, k, LF);
+    let shown = put(buffer, numbered, line);
+    put_byte(buffer, shown, LF)
+}
