@@ -1,3 +1,5 @@
 pub mod Prefix
 pub mod Forms
 pub mod Bits
+pub mod Digits
+pub mod Written

@@ -1,10 +1,10 @@
 // The fields of a line (document 01, "Schedule text and report"): what stands at the start of a
 // text, read with the byte that ends it, a space or the line's LF.
 //
-// `number_field` reads a number of one or two digits, `digit_field` one digit, `reach_field` a reach
-// of n letters 0 or 1. Each answers the value and how many bytes it takes, its end included, or that
-// no such field is there. `starts_with` compares a heading letter for letter. All four take any
-// bytes, answer what the definitions in specs/Fields.antt give, and have no `requires`.
+// `number_field` reads a number of one or two digits, `digit_field` one digit, `reach_field` a
+// reach of n letters 0 or 1. Each answers the value and how many bytes it takes, its end included,
+// or that no such field is there. `starts_with` compares a heading letter for letter. All four take
+// any bytes, answer what the definitions in specs/Fields.antt give, and have no `requires`.
 mod bytes;
 mod letters;
 

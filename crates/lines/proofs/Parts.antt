@@ -3,11 +3,11 @@
 use mathlib.Core.Path.{_≡_, refl, sym, ap, _∙_}
 use mathlib.Core.Logic.{inl, inr}
 use mathlib.Core.List.{List, []}
-use Prim.Native.Nat.{ℕ, zero, suc, _+_, _-_, _≤_, _<_, zero-le}
+use Prim.Native.Nat.{ℕ, zero, suc, _+_, _-_, _≤_, _<_}
 use native.Mathlib.Omega.{arith}
 use native.Mathlib.Numerals.{add-one}
 use borrow.Author.Tests.{eq-eqb, ne-eqb}
-use lib.ListN.{length, getD, take, drop, length-take, length-drop, drop-of-length-le}
+use lib.ListN.{length, getD, take, drop, length-drop, drop-of-length-le}
 use lib.Seq.{drop-cons, drop-drop, take-all}
 use Rattle.laws.proofs.Counting.{split}
 use Rattle.lines.specs.Lines.{lf, lineLength, afterLine, afterLines, startOf, lineOf}
@@ -77,11 +77,3 @@ module _ (text : List ℕ) where
       let from-start : drop start text ≡ afterLines k text = ap (λ (n : ℕ). drop n text) (rw one-less at s) ∙ lines-drop k text in
       let long : end - start ≡ lineLength (drop start text) = omega arith in
       rw (long, from-start)
-
-pub line-short : (k : ℕ) (text : List ℕ) → length (lineOf k text) ≤ length text
-unfolding lineOf
-line-short zero text = zero-le
-line-short (suc k) text =
-    let rest = afterLines k text in
-    let e = ap length (lines-drop k text) in
-    omega (arith, e, length-drop (startOf text rest) text, length-take (lineLength rest) rest)

@@ -5,13 +5,14 @@ use mathlib.Core.Option.{Option, some, none}
 use lib.ListN.{length}
 use lib.Dec.{leb, eqb}
 use Rattle.laws.specs.Answer.{ask, Answer, accepted, refused, andNext}
+use Rattle.laws.specs.Filled.{Filled}
 use Rattle.lines.specs.Lines.{afterLines}
 use Rattle.fields.specs.Found.{Found, found, wrong}
 use Rattle.fields.specs.Fields.{startsWith}
 use Rattle.member.specs.Opening.{sizeQuestions}
 use Rattle.schedule.specs.Schedule.{crashesIn}
 use Rattle.text.specs.Forms.{sizesHeading, processesHeading, Sizes, sizesAt, Entry}
-use Rattle.text.specs.Reading.{isFound, onLine, sizesIn}
+use Rattle.text.specs.Reading.{isFound, onLine, sizesIn, entryIn}
 use Rattle.reader.specs.declared.SizesLine.{SizesLine}
 use Rattle.reader.specs.declared.SizesLine.the-variants.{Sized, NoSizes}
 use Rattle.reader.specs.declared.ProcessLine.{ProcessLine}
@@ -50,3 +51,13 @@ module _ (text : List ℕ) where
   tailQuestions n t crashes =
       andNext (onLine (n + 4) (ask (eqb (length (afterLines (n + 3) text)) 0) 9 0))
       (onLine (n + 3) (ask (leb (crashesIn n crashes) t) 7 0))
+
+-- a table of 32 whose first n entries are those that f gives
+abbrev pub Table : ℕ → List ℕ → (ℕ → ℕ) → Type 0
+Table n table f = Filled 0 32 n table f
+
+-- where the questions of all n lines are passed, three tables hold what stands there
+abbrev pub EntriesRead : Lines → List ℕ → ℕ → List ℕ → List ℕ → List ℕ → Type 0
+EntriesRead (Refused number line) text n votes crashes reaches = Unit {0}
+EntriesRead Passed text n votes crashes reaches =
+    Table n votes (λ i. entryIn text i .vote) × Table n crashes (λ i. entryIn text i .crash) × Table n reaches (λ i. entryIn text i .reach)

@@ -1,5 +1,6 @@
 // Reading a schedule text into tables (document 01, "Schedule text and report").
 mod lines_of;
+mod parts;
 
 // The sizes n and t of the text, or the number of the first question whose answer is no and its line.
 pub enum Reading {

@@ -1,23 +1,16 @@
 -- The decimal digits that `io::decimal` writes are those of the definition: with one digit the number is below 10, and with more its last digit follows
 -- those of its tenth. Assumes nothing.
-use mathlib.Core.Path.{_≡_, refl, sym, ap, ap₂, _∙_, subst}
-use mathlib.Core.Logic.{inl, inr}
+use mathlib.Core.Path.{_≡_, sym, ap, ap₂, _∙_, subst}
 use mathlib.Core.List.{List, [], _∷_, _++_}
 use Prim.Native.Nat.{ℕ, zero, suc, _+_, _-_, _*_, _/_, _%_, _^_, _≤_, _<_}
 use native.Mathlib.Nat.{mod-eq-of-lt, pow-suc, one-le-pow}
 use native.Mathlib.Omega.{arith}
 use borrow.Author.Tests.{lt-ltb, le-ltb}
-use lib.ListN.{length, length-append}
 use lib.Dec.{ltb}
-use Rattle.laws.proofs.Counting.{split}
 use Rattle.laws.proofs.Test.{cond-true, cond-false}
 use Rattle.io.specs.Digits.{glyph, digits, Fewest}
+use Rattle.fields.proofs.Digits.{one-place}
 use Rattle.fields.specs.Decimal.{letter, decimalIn, decimal}
-
-small : (steps x : ℕ) → x < 10 → decimalIn steps x ≡ letter x ∷ []
-unfolding decimalIn
-small zero x l = refl
-small (suc steps) x l = cond-true (ltb x 10) _ _ (lt-ltb x 10 l)
 
 glyph-letter : (d : ℕ) → d < 10 → glyph d ≡ letter d
 glyph-letter d l = cond-true (ltb d 10) (48 + d) (87 + d) (lt-ltb d 10 l)
@@ -26,7 +19,7 @@ digits-in : (k steps x : ℕ) → x ≤ steps → x < 10 ^ suc k → (0 < k → 
 unfolding decimalIn
 digits-in zero steps x s h low =
     let below : x < 10 = h in
-    ap (λ (d : ℕ). glyph d ∷ []) (mod-eq-of-lt below) ∙ ap (λ (b : ℕ). b ∷ []) (glyph-letter x below) ∙ sym (small steps x below)
+    ap (λ (d : ℕ). glyph d ∷ []) (mod-eq-of-lt below) ∙ ap (λ (b : ℕ). b ∷ []) (glyph-letter x below) ∙ sym (one-place steps x below)
 digits-in (suc k) zero x s h low =
     let least : 10 ^ suc k ≤ x = low (omega arith) in
     let some : 1 ≤ 10 ^ suc k = one-le-pow (suc k) 10 (omega arith) in
@@ -46,24 +39,3 @@ digits-decimal zero x h = absurd (omega arith)
 digits-decimal (suc k) x h =
     let before : suc k - 1 ≡ k = omega arith in
     digits-in k x x (omega arith) (h .1) (λ some. subst (λ (j : ℕ). 10 ^ j ≤ x) before (h .2 (omega arith)))
-
--- a number of k digits at most has no more letters
-pub decimal-short : (steps k x : ℕ) → x < 10 ^ suc k → length (decimalIn steps x) ≤ suc k
-unfolding decimalIn
-decimal-short zero k x h = omega arith
-decimal-short (suc steps) zero x h =
-    let below : x < 10 = h in
-    let one : length (decimalIn (suc steps) x) ≡ 1 = ap length (small (suc steps) x below) in
-    omega arith
-decimal-short (suc steps) (suc k) x h =
-    let high : 10 ^ suc (suc k) ≡ 10 ^ suc k * 10 = pow-suc 10 (suc k) in
-    elim (split 10 x) [
-      | inl from-10 ↦
-          let rest : length (decimalIn steps (x / 10)) ≤ suc k = decimal-short steps k (x / 10) (omega arith) in
-          let all : length (decimalIn steps (x / 10) ++ (letter (x % 10) ∷ [])) ≡ length (decimalIn steps (x / 10)) + 1 = length-append (decimalIn steps (x / 10)) _ in
-          let same : length (decimalIn (suc steps) x) ≡ length (decimalIn steps (x / 10) ++ (letter (x % 10) ∷ [])) = ap length (cond-false (ltb x 10) _ _ (le-ltb x 10 from-10)) in
-          omega arith
-      | inr below ↦
-          let one : length (decimalIn (suc steps) x) ≡ 1 = ap length (small (suc steps) x below) in
-          omega arith
-    ]

@@ -15,7 +15,7 @@ use Rattle.laws.proofs.Test.{true-or-false}
 use Rattle.laws.proofs.Counting.{count-first, count-same}
 use Rattle.schedule.specs.Schedule.{names}
 
-bit-is : (x : ℕ) → x < 2 → bit (eqb x 1) ≡ x
+pub bit-is : (x : ℕ) → x < 2 → bit (eqb x 1) ≡ x
 bit-is x low =
     elim (true-or-false (eqb x 1)) [
       | inl e ↦ rw e (let z = eqb-true x 1 e in omega arith)

@@ -1,0 +1,77 @@
+-- The digits of a number: which they are where there are one or two, how many there are, and that no letter of a number is an LF, since the letters start at byte 48.
+-- Assumes nothing.
+use mathlib.Core.Path.{_≡_, refl, ap, _∙_}
+use mathlib.Core.Logic.{inl, inr}
+use mathlib.Core.List.{List, [], _∷_, _++_, append-assoc}
+use Prim.Native.Nat.{ℕ, zero, suc, _+_, _*_, _/_, _%_, _^_, _≤_, _<_}
+use native.Mathlib.Nat.{pow-suc}
+use native.Mathlib.Omega.{arith}
+use borrow.Author.Tests.{lt-ltb, le-ltb}
+use lib.ListN.{length, length-append}
+use lib.Dec.{ltb}
+use Rattle.laws.proofs.Test.{cond-true, cond-false}
+use Rattle.laws.proofs.Counting.{split}
+use Rattle.lines.specs.Lines.{afterLine}
+use Rattle.lines.proofs.Endings.{after-byte}
+use Rattle.fields.specs.Decimal.{letter, decimalIn, decimal}
+
+pub one-place : (steps x : ℕ) → x < 10 → decimalIn steps x ≡ letter x ∷ []
+unfolding decimalIn
+one-place zero x h = refl
+one-place (suc steps) x h = cond-true (ltb x 10) (letter x ∷ []) _ (lt-ltb x 10 h)
+
+two-places : (steps x : ℕ) → 0 < steps → 10 ≤ x → x ≤ 99 → decimalIn steps x ≡ letter (x / 10) ∷ letter (x % 10) ∷ []
+unfolding decimalIn
+two-places zero x some low high = absurd (omega arith)
+two-places (suc steps) x some low high =
+    cond-false (ltb x 10) (letter x ∷ []) _ (le-ltb x 10 low)
+    ∙ ap (λ (l : List ℕ). l ++ (letter (x % 10) ∷ [])) (one-place steps (x / 10) (omega arith))
+
+pub one-digit : (x : ℕ) → x < 10 → decimal x ≡ letter x ∷ []
+unfolding decimal
+one-digit x h = one-place x x h
+
+pub two-digits : (x : ℕ) → 10 ≤ x → x ≤ 99 → decimal x ≡ letter (x / 10) ∷ letter (x % 10) ∷ []
+unfolding decimal
+two-digits x low high = two-places x x (omega arith) low high
+
+-- a number below 10 ^ k has at most k digits
+places-short : (steps k x : ℕ) → x < 10 ^ suc k → length (decimalIn steps x) ≤ suc k
+unfolding decimalIn
+places-short zero k x h = omega arith
+places-short (suc steps) zero x h =
+    let one : length (decimalIn (suc steps) x) ≡ 1 = ap length (one-place (suc steps) x h) in
+    omega arith
+places-short (suc steps) (suc k) x h =
+    let high : 10 ^ suc (suc k) ≡ 10 ^ suc k * 10 = pow-suc 10 (suc k) in
+    elim (split 10 x) [
+      | inl a ↦
+          let rest : length (decimalIn steps (x / 10)) ≤ suc k = places-short steps k (x / 10) (omega arith) in
+          let all : length (decimalIn steps (x / 10) ++ (letter (x % 10) ∷ [])) ≡ length (decimalIn steps (x / 10)) + 1 = length-append (decimalIn steps (x / 10)) _ in
+          let same : length (decimalIn (suc steps) x) ≡ length (decimalIn steps (x / 10) ++ (letter (x % 10) ∷ [])) = ap length (cond-false (ltb x 10) _ _ (le-ltb x 10 a)) in
+          omega arith
+      | inr a ↦
+          let one : length (decimalIn (suc steps) x) ≡ 1 = ap length (one-place (suc steps) x a) in
+          omega arith
+    ]
+
+pub decimal-short : (k x : ℕ) → x < 10 ^ suc k → length (decimal x) ≤ suc k
+unfolding decimal
+decimal-short k x h = places-short x k x h
+
+places-on-line : (steps x : ℕ) (rest : List ℕ) → afterLine (decimalIn steps x ++ rest) ≡ afterLine rest
+unfolding decimalIn
+places-on-line zero x rest = after-byte rest (letter x) (λ e. omega arith)
+places-on-line (suc steps) x rest =
+    elim (split 10 x) [
+      | inl a ↦
+          rw (le-ltb x 10 a)
+          (ap afterLine (append-assoc (decimalIn steps (x / 10)) (letter (x % 10) ∷ []) rest)
+          ∙ places-on-line steps (x / 10) (letter (x % 10) ∷ rest)
+          ∙ after-byte rest (letter (x % 10)) (λ e. omega arith))
+      | inr a ↦ rw (lt-ltb x 10 a) (after-byte rest (letter x) (λ e. omega arith))
+    ]
+
+pub after-decimal : (x : ℕ) (rest : List ℕ) → afterLine (decimal x ++ rest) ≡ afterLine rest
+unfolding decimal
+after-decimal x rest = places-on-line x x rest

@@ -1,0 +1,93 @@
+// The parts of a text in order: the lines before the processes, the lines of the processes, and what
+// is asked after them.
+ghost use mathlib.Core.Path.{_≡_};
+ghost use Prim.Native.Nat.{_≤_};
+ghost use lib.ListN.{length};
+ghost use Rattle.laws.specs.Answer.{accepted, andNext, nextEach};
+ghost use Rattle.member.specs.Opening.{largest};
+ghost use Rattle.text.specs.Reading.{longest, sizesIn, entryQuestions};
+ghost use Rattle.reader.specs.Answers.{readingIs};
+ghost use Rattle.reader.specs.Parts.{linesIs, headQuestions, tailQuestions, EntriesRead};
+use crate::Lines;
+use crate::ProcessLine;
+use crate::Reading;
+use crate::SizesLine;
+use crate::lines_of::read_process;
+use crate::lines_of::read_sizes;
+use fields::starts_with;
+use lines::from;
+use lines::line_start;
+use lines::next_line;
+
+// How many bytes a text may have.
+const LONGEST: usize = 2048;
+
+// The question of the text's length, and those of lines 1 to 3.
+pub fn read_head(text: &[u8]) -> Reading
+    ensures asked { λ r. ⌜ readingIs r ≡ andNext (headQuestions (now (text .entry)) largest longest) (accepted (sizesIn (now (text .entry)))) ⌝ }
+{
+    if LONGEST < text.len() {
+        return Reading::Refused(8, 0);
+    }
+    if !starts_with(text, b"n t\n") {
+        return Reading::Refused(9, 1);
+    }
+    let SizesLine::Sized(n, t) = read_sizes(from(text, line_start(text, 1))) else {
+        return Reading::Refused(9, 2);
+    };
+    let number = acceptance::size_question(n, t);
+    if number != 0 {
+        return Reading::Refused(number, 2);
+    }
+    if !starts_with(from(text, line_start(text, 2)), b"id vote crash reach\n") {
+        return Reading::Refused(9, 3);
+    }
+    Reading::Read(n, t)
+}
+
+// The questions of the lines of the processes, in order, and what stands there.
+pub fn read_processes(
+    text: &[u8],
+    n: usize,
+    t: usize,
+    votes: &mut [u8],
+    crashes: &mut [u8],
+    reaches: &mut [u32],
+) -> Lines
+    requires sizes { ⌜ (n ≤ 32) × (sizesIn (now text) .n ≡ n) × (sizesIn (now text) .t ≡ t) ⌝ }
+    requires long { ⌜ (length (now votes) ≡ 32) × (length (now crashes) ≡ 32) × (length (now reaches) ≡ 32) ⌝ }
+    ensures asked { λ r. ⌜ linesIs r ≡ nextEach n (entryQuestions (now (text .entry))) ⌝ }
+    ensures entries { λ r. ⌜ EntriesRead r (now (text .entry)) n (now (votes .exit)) (now (crashes .exit)) (now (reaches .exit)) ⌝ }
+{
+    let mut at = line_start(text, 3);
+    let mut i: usize = 0;
+    while i < n {
+        let ProcessLine::Process(vote, crash, reach) = read_process(from(text, at), n, i) else {
+            return Lines::Refused(9, i + 4);
+        };
+        let number = acceptance::process_question(n, t, i, vote, crash, reach);
+        if number != 0 {
+            return Lines::Refused(number, i + 4);
+        }
+        votes[i] = vote;
+        crashes[i] = crash;
+        reaches[i] = reach;
+        at = next_line(text, at);
+        i += 1;
+    }
+    Lines::Passed
+}
+
+// What is asked after the last line: that nothing follows, and that at most t processes crash.
+pub fn read_tail(text: &[u8], n: usize, t: usize, crashes: &[u8]) -> Lines
+    requires size { ⌜ (n ≤ 32) × (length (now crashes) ≡ n) ⌝ }
+    ensures asked { λ r. ⌜ linesIs r ≡ tailQuestions (now (text .entry)) n t (now (crashes .entry)) ⌝ }
+{
+    if line_start(text, n + 3) < text.len() {
+        return Lines::Refused(9, n + 4);
+    }
+    if t < acceptance::crash_count(crashes) {
+        return Lines::Refused(7, n + 3);
+    }
+    Lines::Passed
+}
