@@ -88,6 +88,11 @@ module _ {B : Type 0} where
     unfolding andNext
     and-next-refused p others number back e = rw e
 
+    pub and-next-assoc : (p q : Answer (Unit {0}) B) (others : Answer A B) → andNext (andNext p q) others ≡ andNext p (andNext q others)
+    unfolding andNext
+    and-next-assoc (accepted _) q others = refl
+    and-next-assoc (refused number back) q others = refl
+
     -- two rows that end in an answer were both passed
     pub and-next-accepted : (p : Answer (Unit {0}) B) (others : Answer A B) (value : A) → andNext p others ≡ accepted value → (p ≡ accepted tt) × (others ≡ accepted value)
     unfolding andNext

@@ -1,3 +1,5 @@
 pub mod LineForms
 pub mod InOrder
 pub mod Entries
+pub mod Copies
+pub mod Whole

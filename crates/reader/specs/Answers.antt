@@ -5,7 +5,6 @@ use mathlib.Core.Bool.{Bool, _&&_}
 use lib.ListN.{length, drop}
 use lib.Dec.{eqb}
 use Rattle.laws.specs.Answer.{ask, Answer, accepted, refused, andNext}
-use Rattle.schedule.specs.Schedule.{Schedule}
 use Rattle.text.specs.Forms.{Sizes}
 use Rattle.text.specs.Reading.{onLine, sizesIn, scheduleIn, textQuestions}
 use Rattle.reader.specs.declared.Reading.{Reading}
@@ -25,6 +24,10 @@ abbrev pub givenOr : {A B : Type 0} → Answer (Unit {0}) B → A → A → A
 givenOr (accepted _) given kept = given
 givenOr (refused number line) given kept = kept
 
+-- a lent table whose first entries are those that were read
+abbrev pub filled : List ℕ → List ℕ → List ℕ
+filled read lent = read ++ drop (length read) lent
+
 -- A call with a text and three tables: `limit` is the largest n that is accepted and the tables' size, `most` how many bytes a text may have.
 module _ (limit most : ℕ) (text votes crashes reaches : List ℕ) where
   -- "Text: three tables of 32? 3, line 0.", and then the questions of the text
@@ -37,7 +40,7 @@ module _ (limit most : ℕ) (text votes crashes reaches : List ℕ) where
 
   -- A table after the call: "The reader fills three lent tables .. and leaves entries above n unchanged." A refused text changes none.
   unfoldable pub tableAfter : List ℕ → List ℕ → List ℕ
-  tableAfter read lent = givenOr readQuestions (read ++ drop (length read) lent) lent
+  tableAfter read lent = givenOr readQuestions (filled read lent) lent
 
   abbrev pub votesAfter : List ℕ
   votesAfter = tableAfter (scheduleIn text .votes) votes

@@ -4,7 +4,7 @@ use mathlib.Core.List.{List}
 use mathlib.Core.Option.{Option, some, none}
 use lib.ListN.{length}
 use lib.Dec.{leb, eqb}
-use Rattle.laws.specs.Answer.{ask, Answer, accepted, refused, andNext}
+use Rattle.laws.specs.Answer.{ask, Answer, accepted, refused, andNext, nextEach}
 use Rattle.laws.specs.Filled.{Filled}
 use Rattle.lines.specs.Lines.{afterLines}
 use Rattle.fields.specs.Found.{Found, found, wrong}
@@ -12,7 +12,7 @@ use Rattle.fields.specs.Fields.{startsWith}
 use Rattle.member.specs.Opening.{sizeQuestions}
 use Rattle.schedule.specs.Schedule.{crashesIn}
 use Rattle.text.specs.Forms.{sizesHeading, processesHeading, Sizes, sizesAt, Entry}
-use Rattle.text.specs.Reading.{isFound, onLine, sizesIn, entryIn}
+use Rattle.text.specs.Reading.{isFound, onLine, sizesIn, entryIn, scheduleIn, entryQuestions}
 use Rattle.reader.specs.declared.SizesLine.{SizesLine}
 use Rattle.reader.specs.declared.SizesLine.the-variants.{Sized, NoSizes}
 use Rattle.reader.specs.declared.ProcessLine.{ProcessLine}
@@ -51,6 +51,10 @@ module _ (text : List ℕ) where
   tailQuestions n t crashes =
       andNext (onLine (n + 4) (ask (eqb (length (afterLines (n + 3) text)) 0) 9 0))
       (onLine (n + 3) (ask (leb (crashesIn n crashes) t) 7 0))
+
+  -- the questions after line 3
+  unfoldable pub restQuestions : Answer (Unit {0}) ℕ
+  restQuestions = andNext (nextEach (sizesIn text .n) (entryQuestions text)) (tailQuestions (sizesIn text .n) (sizesIn text .t) (scheduleIn text .crashes))
 
 -- a table of 32 whose first n entries are those that f gives
 abbrev pub Table : ℕ → List ℕ → (ℕ → ℕ) → Type 0

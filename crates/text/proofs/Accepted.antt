@@ -26,7 +26,7 @@ use Rattle.text.specs.Output.{printed, outputOf}
 use Rattle.text.specs.Facts.{PrintsDemand3}
 
 -- The questions of one line: they come to 0, or the refusal has that line.
-line-passed : (k q : ℕ) → onLine k q ≡ accepted tt → q ≡ 0
+pub line-passed : (k q : ℕ) → onLine k q ≡ accepted tt → q ≡ 0
 unfolding onLine
 line-passed k q e =
     elim (true-or-false (eqb q 0)) [

@@ -1,0 +1,152 @@
+use mathlib.Core.Path.{_≡_, refl, sym, ap, _∙_}
+use mathlib.Core.Bool.{true}
+use Prim.Native.Nat.{_≤_}
+use Rattle.laws.specs.Answer.{accepted}
+use Rattle.laws.proofs.Test.{was-false, was-true}
+use Rattle.member.specs.Opening.{largest}
+use Rattle.text.specs.Forms.{Sizes}
+use Rattle.text.specs.Reading.{longest, sizesIn}
+use Rattle.reader.specs.Answers.{readingIs, tablesOf, readQuestions}
+use Rattle.reader.specs.Parts.{linesIs, restQuestions}
+use Rattle.reader.proofs.Whole.{tables-long, tables-refuse, head-refused, head-passed, read-refused, read-accepted, table-kept, table-read}
+use borrow.Author.Needs.{needs}
+use Rattle.reader.proofs.read.Statement.{statement}
+use Rattle.reader.proofs.read.Tie as tie
+
+-- src/lib.rt:47:9
+are-of-size-requires : tie.Need-are-of-size-requires
+are-of-size-requires c κs = search needs
+
+-- src/lib.rt:48:9
+returns : tie.Need-returns
+returns c =
+    let a = c .before .before .before .before .before .before .args in
+    let e = tables-refuse (a .text .now) largest longest (a .votes .now) (a .crashes .now) (a .reaches .now) (was-false (c .before .are-of-size .ensures _ _ _ refl refl refl) (c .if1 .taken)) in
+    (read-refused _ _ _ _ _ _ e, (table-kept _ _ _ _ _ _ e _ _, (table-kept _ _ _ _ _ _ e _ _, table-kept _ _ _ _ _ _ e _ _)))
+
+-- the tables are of their size
+sized : (c : tie.Else1) → let a = c .before .before .before .before .before .before .args in tablesOf largest (a .votes .now) (a .crashes .now) (a .reaches .now) ≡ true
+sized c = was-true (c .before .are-of-size .ensures _ _ _ refl refl refl) (c .if1 .left)
+
+-- src/lib.rt:50:9
+read-head-requires : tie.Need-read-head-requires
+read-head-requires c κs = search needs
+
+-- src/lib.rt:51:23
+enum-known-head : tie.Need-enum-known-head
+enum-known-head c = search needs
+
+-- src/lib.rt:52:9
+enum-told : tie.Need-enum-told
+enum-told c = search needs
+
+-- src/lib.rt:52:9
+returns-2 : tie.Need-returns-2
+returns-2 c =
+    let h = c .before .before in
+    let a = h .before .before .before .before .before .before .before .args in
+    let told = ap readingIs (c .enum-told .given .1) in
+    let e = head-refused (a .text .now) largest longest (a .votes .now) (a .crashes .now) (a .reaches .now) (sized (h .before)) (sym told ∙ h .read-head .ensures) in
+    (told ∙ read-refused _ _ _ _ _ _ e, (table-kept _ _ _ _ _ _ e _ _, (table-kept _ _ _ _ _ _ e _ _, table-kept _ _ _ _ _ _ e _ _)))
+
+-- the sizes are those of the text, and what is left to ask are the questions of the rest
+passed-head : (c : tie.After-head) → let a = c .before .before .before .before .before .before .before .before .before .args in let text = a .text .now in
+    (readQuestions largest longest text (a .votes .now) (a .crashes .now) (a .reaches .now) ≡ restQuestions text)
+    × (sizesIn text ≡ record { n = c .head .given .0 .0; t = c .head .given .0 .1 .0 })
+    × (c .head .given .0 .0 ≤ largest)
+passed-head c =
+    let h = c .before .before in
+    let a = h .before .before .before .before .before .before .before .args in
+    head-passed (a .text .now) largest longest (a .votes .now) (a .crashes .now) (a .reaches .now) (sized (h .before)) (sym (ap readingIs (c .head .given .1)) ∙ h .read-head .ensures)
+
+-- src/lib.rt:54:9
+read-rest-requires : tie.Need-read-rest-requires
+read-rest-requires c κs =
+    let d = c .before .before .before .before in
+    let p = passed-head d in
+    let same = p .1 in
+    ((p .2, ap (λ (s : Sizes). s .n) same, ap (λ (s : Sizes). s .t) same), tables-long largest _ _ _ (sized (d .before .before .before)))
+
+-- src/lib.rt:55:27
+enum-known-rest : tie.Need-enum-known-rest
+enum-known-rest c = search needs
+
+-- src/lib.rt:56:9
+same-length : tie.Need-same-length
+same-length c = search needs
+
+-- src/lib.rt:56:9
+same-length-2 : tie.Need-same-length-2
+same-length-2 c = search needs
+
+-- src/lib.rt:56:9
+same-length-3 : tie.Need-same-length-3
+same-length-3 c = search needs
+
+-- src/lib.rt:56:9
+-- what the rest answers is answered, and the tables are as it left them
+answered-by-rest : (c : tie.After-read-rest) → let a = c .before .before .before .before .before .before .before .before .before .before .before .before .before .before .args in linesIs (c .read-rest .result) ≡ readQuestions largest longest (a .text .now) (a .votes .now) (a .crashes .now) (a .reaches .now)
+answered-by-rest c = c .read-rest .ensures .0 ∙ sym (passed-head (c .before .before .before .before .before) .0)
+
+returns-3 : tie.Need-returns-3
+returns-3 c =
+    let r = c .before .before .before .before .before .before .before .before .before in
+    let p = passed-head (r .before .before .before .before .before) .0 in
+    let e = sym (answered-by-rest r) ∙ ap linesIs (c .before .rest .given .1) in (
+      read-refused _ _ _ _ _ _ e,
+      (
+        r .read-rest .ensures .1 .0 ∙ table-read _ _ _ _ _ _ p _ _,
+        (r .read-rest .ensures .1 .1 .0 ∙ table-read _ _ _ _ _ _ p _ _, r .read-rest .ensures .1 .1 .1 ∙ table-read _ _ _ _ _ _ p _ _),
+      ),
+    )
+
+enum-told-2 : tie.Need-enum-told-2
+enum-told-2 c = search needs
+
+-- src/lib.rt:41:1
+same-length-4 : tie.Need-same-length-4
+same-length-4 c = search needs
+
+-- src/lib.rt:41:1
+same-length-5 : tie.Need-same-length-5
+same-length-5 c = search needs
+
+-- src/lib.rt:41:1
+same-length-6 : tie.Need-same-length-6
+same-length-6 c = search needs
+
+-- src/lib.rt:41:1
+returns-4 : tie.Need-returns-4
+returns-4 c =
+    let r = c .before .before .before .before .before .before .before .before in
+    let h = passed-head (r .before .before .before .before .before) in
+    let p = h .0 in
+    let e = sym (answered-by-rest r) ∙ ap linesIs (c .enum-told2 .given .1) in (
+      ap accepted (sym (h .1)) ∙ read-accepted _ _ _ _ _ _ e,
+      (
+        r .read-rest .ensures .1 .0 ∙ table-read _ _ _ _ _ _ p _ _,
+        (r .read-rest .ensures .1 .1 .0 ∙ table-read _ _ _ _ _ _ p _ _, r .read-rest .ensures .1 .1 .1 ∙ table-read _ _ _ _ _ _ p _ _),
+      ),
+    )
+
+pub read-spec : {M : Type 1} → statement M
+read-spec =
+    tie.close
+    (tie.spec
+    are-of-size-requires
+    returns
+    read-head-requires
+    enum-known-head
+    enum-told
+    returns-2
+    read-rest-requires
+    enum-known-rest
+    same-length
+    same-length-2
+    same-length-3
+    returns-3
+    enum-told-2
+    same-length-4
+    same-length-5
+    same-length-6
+    returns-4)

@@ -1,0 +1,171 @@
+use mathlib.Core.Path.{_≡_, sym, ap, _∙_}
+use native.Mathlib.Omega.{arith}
+use lib.ListN.{length, take}
+use lib.Seq.{length-take-le}
+use Rattle.reader.specs.declared.Lines.the-variants.{Passed}
+use Rattle.reader.specs.Parts.{linesIs, EntriesRead, restQuestions}
+use Rattle.reader.proofs.Whole.{gives, keeps, filled-with, lines-refuse, lines-pass, read-votes, read-crashes, read-reaches, entries}
+use borrow.Author.Needs.{needs}
+use Rattle.reader.proofs.rest.read_rest.Statement.{statement}
+use Rattle.reader.proofs.rest.read_rest.Tie as tie
+
+-- src/rest.rt:30:25
+blank-bytes-requires : tie.Need-blank-bytes-requires
+blank-bytes-requires c κs = search needs
+
+-- src/rest.rt:31:27
+blank-bytes-requires-2 : tie.Need-blank-bytes-requires-2
+blank-bytes-requires-2 c κs = search needs
+
+-- src/rest.rt:32:27
+blank-words-requires : tie.Need-blank-words-requires
+blank-words-requires c κs = search needs
+
+-- src/rest.rt:37:9
+slice-aggregate-read-processes : tie.Need-slice-aggregate-read-processes
+slice-aggregate-read-processes c = search needs
+
+-- src/rest.rt:38:9
+slice-aggregate-read-processes-2 : tie.Need-slice-aggregate-read-processes-2
+slice-aggregate-read-processes-2 c = search needs
+
+-- src/rest.rt:39:9
+slice-aggregate-read-processes-3 : tie.Need-slice-aggregate-read-processes-3
+slice-aggregate-read-processes-3 c = search needs
+
+-- src/rest.rt:33:9
+read-processes-requires : tie.Need-read-processes-requires
+read-processes-requires c κs = search needs
+
+enum-told : tie.Need-enum-told
+enum-told c = search needs
+
+-- src/rest.rt:42:9
+enum-told-2 : tie.Need-enum-told-2
+enum-told-2 c = search needs
+
+-- src/rest.rt:42:9
+-- the questions of the lines refuse, and so does the rest
+returns : tie.Need-returns
+returns c =
+    let p = c .before .before .before .before .before in
+    let a = p .before .before .before .before .before .before .before .before .before .before .before .args in
+    let pre = p .before .before .before .before .before .before .before .before .before .before .before .pre in
+    let told = ap linesIs (c .enum-told2 .given .1) in
+    let e = lines-refuse (a .text .now) (a .n) (a .t) (pre .0 .1) (pre .0 .2) (sym (p .read-processes .ensures .0) ∙ told) in
+    (told ∙ sym e, (keeps _ _ e, (keeps _ _ e, keeps _ _ e)))
+
+-- src/rest.rt:44:38
+array-share-prefix-own-crashes : tie.Need-array-share-prefix-own-crashes
+array-share-prefix-own-crashes c = search needs
+
+-- src/rest.rt:44:38
+-- what was read, where the questions of the lines are passed
+tables-read : (c : tie.After-enum-told) → let p = c .before .before .before .before .before in let a = p .before .before .before .before .before .before .before .before .before .before .before .args in
+    EntriesRead Passed (a .text .now) (a .n) (p .read-processes .last .1 .1 .1 .0) (p .read-processes .last .1 .1 .1 .1 .0) (p .read-processes .last .1 .1 .1 .1 .1 .0)
+tables-read c = let p = c .before .before .before .before .before in entries _ _ _ _ _ _ (c .enum-told .given .1) (p .read-processes .ensures .1)
+
+front-long : (c : tie.After-own-crashes3) → let p = c .before .before .before .before .before .before in let a = p .before .before .before .before .before .before .before .before .before .before .before .args in length (take (a .n) (p .read-processes .last .1 .1 .1 .1 .0)) ≡ a .n
+front-long c =
+    let p = c .before .before .before .before .before .before in
+    let a = p .before .before .before .before .before .before .before .before .before .before .before .args in
+    let long = tables-read (c .before) .1 .long in
+    length-take-le (a .n) (p .read-processes .last .1 .1 .1 .1 .0) (omega arith)
+
+slice-aggregate-read-tail : tie.Need-slice-aggregate-read-tail
+slice-aggregate-read-tail c = sym (front-long c)
+
+-- src/rest.rt:44:9
+read-tail-requires : tie.Need-read-tail-requires
+read-tail-requires c κs = (c .before .before .before .before .before .before .before .before .before .before .before .before .before .before .before .before .before .pre .0 .0, front-long c)
+
+enum-told-3 : tie.Need-enum-told-3
+enum-told-3 c = search needs
+
+-- src/rest.rt:46:9
+enum-told-4 : tie.Need-enum-told-4
+enum-told-4 c = search needs
+
+-- src/rest.rt:46:9
+-- what is asked after the lines is then the answer of the rest
+tail-asked : (c : tie.After-read-tail) → linesIs (c .read-tail .result) ≡ restQuestions (c .before .before .before .before .before .before .before .before .before .before .before .before .before .before .before .before .before .before .args .text .now)
+tail-asked c =
+    let p = c .before .before .before .before .before .before .before in
+    let a = p .before .before .before .before .before .before .before .before .before .before .before .args in
+    let pre = p .before .before .before .before .before .before .before .before .before .before .before .pre in
+    let told = c .before .before in
+    let own = p .read-processes .last .1 .1 .1 .1 .0 in
+    c .read-tail .ensures
+    ∙ lines-pass (a .text .now) (a .n) (a .t) (pre .0 .1) (pre .0 .2) (sym (p .read-processes .ensures .0) ∙ ap linesIs (told .enum-told .given .1)) _
+    (read-crashes (a .text .now) (a .n) (a .t) (pre .0 .1) (pre .0 .2) own (pre .0 .0) (tables-read told .1))
+
+returns-2 : tie.Need-returns-2
+returns-2 c =
+    let told = ap linesIs (c .enum-told4 .given .1) in
+    let e = sym (tail-asked (c .before .before)) ∙ told in
+    (told ∙ sym e, (keeps _ _ e, (keeps _ _ e, keeps _ _ e)))
+
+-- src/rest.rt:48:5
+fill-requires : tie.Need-fill-requires
+fill-requires c κs = search needs
+
+-- src/rest.rt:15:1
+same-length : tie.Need-same-length
+same-length c = search needs
+
+-- src/rest.rt:15:1
+same-length-2 : tie.Need-same-length-2
+same-length-2 c = search needs
+
+-- src/rest.rt:15:1
+same-length-3 : tie.Need-same-length-3
+same-length-3 c = search needs
+
+-- src/rest.rt:15:1
+returns-3 : tie.Need-returns-3
+returns-3 c =
+    let f = c .before .before .before .before .before .before in
+    let r = c .before .before .before .before .before .before .before .before .before .before .before .before in
+    let p = r .before .before .before .before .before .before .before in
+    let a = p .before .before .before .before .before .before .before .before .before .before .before .args in
+    let pre = p .before .before .before .before .before .before .before .before .before .before .before .pre in
+    let tables = tables-read (r .before .before) in
+    let e = sym (tail-asked r) ∙ ap linesIs (c .before .before .before .before .before .before .before .before .before .before .enum-told3 .given .1) in
+    let votes = read-votes (a .text .now) (a .n) (a .t) (pre .0 .1) (pre .0 .2) _ (pre .0 .0) (tables .0) in
+    let crashes = read-crashes (a .text .now) (a .n) (a .t) (pre .0 .1) (pre .0 .2) _ (pre .0 .0) (tables .1) in
+    let reaches = read-reaches (a .text .now) (a .n) (a .t) (pre .0 .1) (pre .0 .2) _ (pre .0 .0) (tables .2) in
+    let votes-long = tables .0 .long in
+    let crashes-long = tables .1 .long in
+    let reaches-long = tables .2 .long in (
+      sym e,
+      (
+        f .fill .ensures .0 ∙ filled-with (a .n) _ _ _ (omega arith) votes ∙ gives _ _ e,
+        (f .fill .ensures .1 .0 ∙ filled-with (a .n) _ _ _ (omega arith) crashes ∙ gives _ _ e, f .fill .ensures .1 .1 ∙ filled-with (a .n) _ _ _ (omega arith) reaches ∙ gives _ _ e),
+      ),
+    )
+
+pub read-rest-spec : {M : Type 1} → statement M
+read-rest-spec =
+    tie.close
+    (tie.spec
+    blank-bytes-requires
+    blank-bytes-requires-2
+    blank-words-requires
+    slice-aggregate-read-processes
+    slice-aggregate-read-processes-2
+    slice-aggregate-read-processes-3
+    read-processes-requires
+    enum-told
+    enum-told-2
+    returns
+    array-share-prefix-own-crashes
+    slice-aggregate-read-tail
+    read-tail-requires
+    enum-told-3
+    enum-told-4
+    returns-2
+    fill-requires
+    same-length
+    same-length-2
+    same-length-3
+    returns-3)

@@ -1,0 +1,22 @@
+-- `are_of_size` meets its contract: its tests are those of `tablesOf`, in order. Assumes nothing.
+use native.Mathlib.Omega.{arith}
+use borrow.Author.Tests.{eq-eqb, ne-eqb}
+use lib.ListN.{length}
+use Rattle.reader.specs.Answers.{tablesOf}
+use Rattle.reader.proofs.tables.are_of_size.Statement.{statement}
+use Rattle.reader.proofs.tables.are_of_size.Tie as tie
+
+returns : tie.Need-returns
+unfolding tablesOf
+returns c votes crashes reaches ev ec er = rw (ne-eqb (length votes) 32 (λ e. omega arith))
+
+returns-2 : tie.Need-returns-2
+unfolding tablesOf
+returns-2 c votes crashes reaches ev ec er = rw (eq-eqb (length votes) 32 (omega arith), ne-eqb (length crashes) 32 (λ e. omega arith))
+
+returns-3 : tie.Need-returns-3
+unfolding tablesOf
+returns-3 c votes crashes reaches ev ec er = rw (eq-eqb (length votes) 32 (omega arith), eq-eqb (length crashes) 32 (omega arith), er)
+
+pub are-of-size-spec : {M : Type 1} → statement M
+are-of-size-spec = tie.close (tie.spec returns returns-2 returns-3)

@@ -1,0 +1,58 @@
+// The text after line 3, and the filling of the lent tables.
+ghost use mathlib.Core.Path.{_≡_};
+ghost use Prim.Native.Nat.{_≤_};
+ghost use lib.ListN.{length};
+ghost use Rattle.text.specs.Reading.{sizesIn, scheduleIn};
+ghost use Rattle.reader.specs.Answers.{givenOr, filled};
+ghost use Rattle.reader.specs.Parts.{linesIs, restQuestions};
+use crate::Lines;
+use crate::parts::read_processes;
+use crate::parts::read_tail;
+use crate::tables;
+
+// Asks the questions after line 3, and fills the tables if each is answered by yes. Number 7 is known
+// only after the last line, so the lines are read into arrays of the function's own.
+pub fn read_rest(
+    text: &[u8],
+    n: usize,
+    t: usize,
+    votes: &mut [u8],
+    crashes: &mut [u8],
+    reaches: &mut [u32],
+) -> Lines
+    requires sizes { ⌜ (n ≤ 32) × (sizesIn (now text) .n ≡ n) × (sizesIn (now text) .t ≡ t) ⌝ }
+    requires long { ⌜ (length (now votes) ≡ 32) × (length (now crashes) ≡ 32) × (length (now reaches) ≡ 32) ⌝ }
+    ensures asked { λ r. ⌜ linesIs r ≡ restQuestions (now (text .entry)) ⌝ }
+    ensures votes_read { λ r. ⌜ now (votes .exit) ≡ givenOr (restQuestions (now (text .entry))) (filled (scheduleIn (now (text .entry)) .votes) (now (votes .entry))) (now (votes .entry)) ⌝ }
+    ensures crashes_read { λ r. ⌜ now (crashes .exit) ≡ givenOr (restQuestions (now (text .entry))) (filled (scheduleIn (now (text .entry)) .crashes) (now (crashes .entry))) (now (crashes .entry)) ⌝ }
+    ensures reaches_read { λ r. ⌜ now (reaches .exit) ≡ givenOr (restQuestions (now (text .entry))) (filled (scheduleIn (now (text .entry)) .reaches) (now (reaches .entry))) (now (reaches .entry)) ⌝ }
+{
+    let mut own_votes = tables::blank_bytes();
+    let mut own_crashes = tables::blank_bytes();
+    let mut own_reaches = tables::blank_words();
+    let lines = read_processes(
+        text,
+        n,
+        t,
+        &mut own_votes,
+        &mut own_crashes,
+        &mut own_reaches,
+    );
+    let Lines::Passed = lines else {
+        return lines;
+    };
+    let tail = read_tail(text, n, t, &own_crashes[..n]);
+    let Lines::Passed = tail else {
+        return tail;
+    };
+    tables::fill(
+        n,
+        own_votes,
+        own_crashes,
+        own_reaches,
+        votes,
+        crashes,
+        reaches,
+    );
+    Lines::Passed
+}
