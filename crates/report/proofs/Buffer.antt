@@ -1,17 +1,17 @@
 -- A buffer that bytes are written into, one after the other: one byte more, a whole part, and what it holds at the end. A byte that is stored at the next
 -- place is the one after those written; where there is no place left, nothing of the buffer changes. Assumes nothing.
-use mathlib.Core.Path.{_≡_, refl, sym, ap, _∙_, subst}
+use mathlib.Core.Path.{_≡_, sym, ap, ap₂, _∙_, subst}
 use mathlib.Core.Logic.{inl, inr}
 use mathlib.Core.List.{List, [], _∷_, _++_, append-nil, append-assoc}
-use Prim.Native.Nat.{ℕ, _+_, _≤_, _<_, min}
+use Prim.Native.Nat.{ℕ, _+_, _≤_, _<_}
 use native.Mathlib.Numerals.{add-one}
 use native.Mathlib.Omega.{arith}
 use lib.ListN.{length, getD, take, set, replicate, length-set, length-append, length-replicate, getD-replicate, List·getD-append, List·getD-eq-default}
 use lib.Seq.{getD-set-same, getD-set-other, getD-append-seam, take-suc}
-use Rattle.laws.specs.Filled.{Filled}
 use Rattle.laws.proofs.Counting.{split}
 use Rattle.laws.proofs.Filled.{filled-list}
 use Rattle.report.specs.Bytes.{padded, Holds, Writes}
+use Rattle.report.specs.Answers.{outputIs}
 
 -- One byte after others, read at a place: before its own, at it, and past it.
 byte-before : (xs : List ℕ) (b k : ℕ) → k < length xs → getD xs k 0 ≡ getD (xs ++ (b ∷ [])) k 0
@@ -92,3 +92,11 @@ pub holds-all : (size : ℕ) (buffer : List ℕ) (at : ℕ) (written : List ℕ)
     → (buffer ≡ padded size written) × (at ≡ length written)
 unfolding padded
 holds-all size buffer at written h fits = let next = h .next in (filled-list (h .bytes .long) (h .bytes), omega arith)
+
+-- The output: what was written into a buffer of zeros, where all of it fits.
+pub written-output : (blank buffer : List ℕ) (next : ℕ) (written : List ℕ) → blank ≡ replicate 2112 0 → Writes blank 0 buffer next written → length written ≤ 2112
+    → (record { bytes = buffer; length = next } ≡ outputIs written) × (next ≤ 2112)
+written-output blank buffer next written zeros w fits =
+    let h = holds-all 2112 buffer next written (w 2112 [] (holds-nothing 2112 blank zeros)) fits in
+    let long = h .1 in
+    (ap₂ (λ (bytes : List ℕ) (length : ℕ). record { bytes = bytes; length = length }) (h .0) long, omega arith)

@@ -33,7 +33,7 @@ process-short n i vote crash reach hi hv hc =
     let r = letters-long n reach in
     simp length-append (omega arith)
 
-each-short : (n most : ℕ) (line : ℕ → List ℕ) → ((i : ℕ) → i < n → length (line i) ≤ most) → length (eachLine n line) ≤ most * n
+pub each-short : (n most : ℕ) (line : ℕ → List ℕ) → ((i : ℕ) → i < n → length (line i) ≤ most) → length (eachLine n line) ≤ most * n
 unfolding eachLine fold
 each-short zero most line h = omega arith
 each-short (suc n) most line h =

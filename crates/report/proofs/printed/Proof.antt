@@ -1,0 +1,118 @@
+use mathlib.Core.Path.{_≡_, sym, ap, _∙_}
+use lib.ListN.{length, take}
+use Rattle.laws.specs.Answer.{accepted, refused}
+use Rattle.member.specs.Opening.{largest}
+use Rattle.schedule.specs.Schedule.{scheduleOf}
+use Rattle.text.specs.Reading.{longest, scheduleIn}
+use Rattle.reader.specs.Answers.{readingIs, readAnswer}
+use Rattle.report.specs.Answers.{outputIs}
+use Rattle.report.proofs.Texts.{schedule-read, n-small, read-question, report-printed, line-shown, refusal-printed, keeps-demand-3}
+use borrow.Author.Needs.{needs}
+use Rattle.report.proofs.printed.Statement.{statement}
+use Rattle.report.proofs.printed.Tie as tie
+
+-- src/lib.rt:30:21
+blank-bytes-requires : tie.Need-blank-bytes-requires
+blank-bytes-requires c κs = search needs
+
+-- src/lib.rt:31:23
+blank-bytes-requires-2 : tie.Need-blank-bytes-requires-2
+blank-bytes-requires-2 c κs = search needs
+
+-- src/lib.rt:32:23
+blank-words-requires : tie.Need-blank-words-requires
+blank-words-requires c κs = search needs
+
+-- src/lib.rt:33:38
+slice-aggregate-read : tie.Need-slice-aggregate-read
+slice-aggregate-read c = search needs
+
+-- src/lib.rt:33:50
+slice-aggregate-read-2 : tie.Need-slice-aggregate-read-2
+slice-aggregate-read-2 c = search needs
+
+-- src/lib.rt:33:64
+slice-aggregate-read-3 : tie.Need-slice-aggregate-read-3
+slice-aggregate-read-3 c = search needs
+
+-- src/lib.rt:33:9
+read-requires : tie.Need-read-requires
+read-requires c κs = search needs
+
+-- src/lib.rt:35:23
+enum-known-reading : tie.Need-enum-known-reading
+enum-known-reading c = search needs
+
+-- src/lib.rt:35:32
+-- the reader's own tables have 32 entries
+sized : (c : tie.After-read) → (length (c .before .before .before .before .before .before .blank-bytes .result) ≡ 32) × (length (c .before .before .before .before .before .blank-bytes2 .result) ≡ 32) × (length (c .before .before .before .before .blank-words .result) ≡ 32)
+sized c = (search needs, search needs, search needs)
+
+-- the text is accepted
+accepts : (c : tie.After-reading) → let r = c .before .before .before .before .before in accepted (record { n = c .reading .given .0 .0; t = c .reading .given .0 .1 .0 }) ≡ readAnswer largest longest (r .before .before .before .before .before .before .before .before .args .text .now) (r .before .before .before .before .before .before .blank-bytes .result) (r .before .before .before .before .before .blank-bytes2 .result) (r .before .before .before .before .blank-words .result)
+accepts c = let r = c .before .before .before .before .before in sym (ap readingIs (c .reading .given .1)) ∙ r .read .ensures .0
+
+-- and its schedule stands in the first n entries of the tables
+schedule : (c : tie.After-reading) → let r = c .before .before .before .before .before in let n = c .reading .given .0 .0 in let t = c .reading .given .0 .1 .0 in
+    scheduleOf n t (take n (r .read .last .1 .0)) (take n (r .read .last .1 .1 .0)) (take n (r .read .last .1 .1 .1 .0)) ≡ scheduleIn (r .before .before .before .before .before .before .before .before .args .text .now)
+schedule c =
+    let r = c .before .before .before .before .before in
+    let long = sized r in
+    schedule-read _ _ _ _ (long .0) (long .1) (long .2) (accepts c) _ _ _ (r .read .ensures .1 .0) (r .read .ensures .1 .1 .0) (r .read .ensures .1 .1 .1)
+
+of-tables-requires : tie.Need-of-tables-requires
+of-tables-requires c κs =
+    let d = c .before in
+    let long = sized (d .before .before .before .before .before) in
+    (n-small _ _ _ _ (long .0) (long .1) (long .2) (accepts d), read-question _ _ _ _ (long .0) (long .1) (long .2) (accepts d) _ (schedule d))
+
+-- src/lib.rt:36:26
+enum-known-reading-2 : tie.Need-enum-known-reading-2
+enum-known-reading-2 c = search needs
+
+-- src/lib.rt:36:40
+-- the text is refused
+refuses : (c : tie.After-reading2) → let r = c .before .before .before .before .before in refused (c .reading2 .given .0 .0) (c .reading2 .given .0 .1 .0) ≡ readAnswer largest longest (r .before .before .before .before .before .before .before .before .args .text .now) (r .before .before .before .before .before .before .blank-bytes .result) (r .before .before .before .before .before .blank-bytes2 .result) (r .before .before .before .before .blank-words .result)
+refuses c = let r = c .before .before .before .before .before in sym (ap readingIs (c .reading2 .given .1)) ∙ r .read .ensures .0
+
+refused-requires : tie.Need-refused-requires
+refused-requires c κs =
+    let d = c .before in
+    let long = sized (d .before .before .before .before .before) in
+    line-shown _ _ _ _ (long .0) (long .1) (long .2) (refuses d)
+
+-- src/lib.rt:25:1
+returns : tie.Need-returns
+returns c =
+    let d = c .before .before in
+    let text = d .before .before .before .before .before .before .before .before .before .before .before .before .before .args .text .now in
+    let long = sized (d .before .before .before .before .before) in
+    let e = c .of-tables .ensures .0 ∙ ap outputIs (report-printed text _ _ _ (long .0) (long .1) (long .2) (accepts d) _ (schedule d)) in
+    (e, (c .of-tables .ensures .1, keeps-demand-3 text _ e (c .of-tables .ensures .1)))
+
+-- src/lib.rt:25:1
+returns-2 : tie.Need-returns-2
+returns-2 c =
+    let d = c .before .before in
+    let text = d .before .before .before .before .before .before .before .before .before .before .before .before .before .args .text .now in
+    let long = sized (d .before .before .before .before .before) in
+    let e = c .refused .ensures .0 ∙ ap outputIs (refusal-printed text _ _ _ (long .0) (long .1) (long .2) (refuses d)) in
+    (e, (c .refused .ensures .1, keeps-demand-3 text _ e (c .refused .ensures .1)))
+
+pub printed-spec : {M : Type 1} → statement M
+printed-spec =
+    tie.close
+    (tie.spec
+    blank-bytes-requires
+    blank-bytes-requires-2
+    blank-words-requires
+    slice-aggregate-read
+    slice-aggregate-read-2
+    slice-aggregate-read-3
+    read-requires
+    enum-known-reading
+    of-tables-requires
+    enum-known-reading-2
+    refused-requires
+    returns
+    returns-2)

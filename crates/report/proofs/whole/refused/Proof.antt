@@ -1,0 +1,45 @@
+use mathlib.Core.Path.{ap}
+use Prim.Native.Nat.{_≤_}
+use lib.ListN.{length}
+use Rattle.lines.specs.Lines.{lineOf}
+use Rattle.text.specs.Output.{refusalText}
+use Rattle.report.proofs.Buffer.{writes-same, written-output}
+use Rattle.report.proofs.Lengths.{refusal-short}
+use borrow.Author.Needs.{needs}
+use Rattle.report.proofs.whole.refused.Statement.{statement}
+use Rattle.report.proofs.whole.refused.Tie as tie
+
+-- src/whole.rt:77:21
+blank-output-requires : tie.Need-blank-output-requires
+blank-output-requires c κs = search needs
+
+-- src/whole.rt:78:30
+slice-aggregate-put-refusal : tie.Need-slice-aggregate-put-refusal
+slice-aggregate-put-refusal c = search needs
+
+-- src/whole.rt:78:53
+line-requires : tie.Need-line-requires
+line-requires c κs = search needs
+
+-- src/whole.rt:78:9
+put-refusal-requires : tie.Need-put-refusal-requires
+put-refusal-requires c κs = search needs
+
+-- src/whole.rt:73:1
+returns : tie.Need-returns
+returns c =
+    let a = c .before .before .before .before .before .before .args in
+    let short : length (lineOf (a .k) (a .text .now)) ≤ 2048 = c .before .before .before .before .before .before .pre in
+    let line = c .before .before .line .ensures in
+    let w = writes-same (ap (refusalText (a .number) (a .k)) line) (c .before .put-refusal .ensures) in
+    written-output _ _ _ _ (c .before .before .before .before .blank-output .ensures) w (refusal-short (a .number) (a .k) _ (search needs) (search needs) short)
+
+pub refused-spec : {M : Type 1} → statement M
+refused-spec =
+    tie.close
+    (tie.spec
+    blank-output-requires
+    slice-aggregate-put-refusal
+    line-requires
+    put-refusal-requires
+    returns)

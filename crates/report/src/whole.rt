@@ -1,0 +1,104 @@
+// The two kinds of output: the report of an accepted schedule, and a refusal.
+ghost use mathlib.Core.Path.{_≡_};
+ghost use mathlib.Core.Bool.{true};
+ghost use Prim.Native.Nat.{_≤_};
+ghost use lib.ListN.{length, take, replicate};
+ghost use Rattle.lines.specs.Lines.{lineOf};
+ghost use Rattle.member.specs.Opening.{largest};
+ghost use Rattle.schedule.specs.Schedule.{scheduleOf};
+ghost use Rattle.schedule.specs.Questions.{question};
+ghost use Rattle.run.specs.Protocol.{fcwfa};
+ghost use Rattle.run.specs.Report.{report};
+ghost use Rattle.text.specs.Output.{reportText, refusalText};
+ghost use Rattle.simulator.specs.Answers.{answersLong};
+ghost use Rattle.report.specs.Answers.{outputIs};
+use crate::Output;
+use crate::report_lines::put_refusal;
+use crate::report_lines::put_report;
+use simulator::Simulated;
+
+// A table of 32 bytes.
+pub fn blank_bytes() -> [u8; 32] {
+    [0u8; 32]
+}
+
+// A table of 32 reaches.
+pub fn blank_words() -> [u32; 32] {
+    [0u32; 32]
+}
+
+// A buffer for the output.
+fn blank_output() -> [u8; 2112]
+    ensures zeros { λ r. ⌜ r ≡ replicate 2112 0 ⌝ }
+{
+    [0u8; 2112]
+}
+
+// The report of a schedule in tables, which is an accepted one; the answer tables are lent for its run.
+fn completed(
+    n: usize,
+    t: usize,
+    votes: &[u8],
+    crashes: &[u8],
+    reaches: &[u32],
+    decisions: &mut [u8],
+    rounds: &mut [u8],
+) -> Output
+    requires accepted { ⌜ question (scheduleOf n t (now votes) (now crashes) (now reaches)) largest (answersLong n (now decisions) (now rounds)) ≡ 0 ⌝ }
+    ensures output { λ r. ⌜ r ≡ outputIs (reportText n t (report fcwfa (scheduleOf n t (now (votes .entry)) (now (crashes .entry)) (now (reaches .entry))))) ⌝ }
+    ensures fits { λ r. ⌜ r .length ≤ 2112 ⌝ }
+{
+    let mut bytes = blank_output();
+    let run = simulator::simulate(n, t, votes, crashes, reaches, decisions, rounds);
+    let Simulated::Completed(counts) = run else {
+        return Output {
+            bytes: bytes,
+            length: 0,
+        };
+    };
+    let length = put_report(&mut bytes, t, counts, &decisions[..], &rounds[..]);
+    Output {
+        bytes: bytes,
+        length: length,
+    }
+}
+
+// The report of the accepted schedule in the first n entries of three tables.
+pub fn of_tables(
+    n: usize,
+    t: usize,
+    votes: [u8; 32],
+    crashes: [u8; 32],
+    reaches: [u32; 32],
+) -> Output
+    requires size { ⌜ n ≤ 32 ⌝ }
+    requires accepted { ⌜ question (scheduleOf n t (take n votes) (take n crashes) (take n reaches)) largest true ≡ 0 ⌝ }
+    ensures output { λ r. ⌜ r ≡ outputIs (reportText n t (report fcwfa (scheduleOf n t (take n votes) (take n crashes) (take n reaches)))) ⌝ }
+    ensures fits { λ r. ⌜ r .length ≤ 2112 ⌝ }
+{
+    let mut decisions = blank_bytes();
+    let mut rounds = blank_bytes();
+    completed(
+        n,
+        t,
+        &votes[..n],
+        &crashes[..n],
+        &reaches[..n],
+        &mut decisions[..n],
+        &mut rounds[..n],
+    )
+}
+
+// The three lines of a refusal, the last of which is line k of the text.
+pub fn refused(text: &[u8], number: u8, k: usize) -> Output
+    requires short { ⌜ length (lineOf k (now text)) ≤ 2048 ⌝ }
+    ensures output { λ r. ⌜ r ≡ outputIs (refusalText number k (lineOf k (now (text .entry)))) ⌝ }
+    ensures fits { λ r. ⌜ r .length ≤ 2112 ⌝ }
+{
+    let mut bytes = blank_output();
+    let length = put_refusal(&mut bytes, number, k, lines::line(text, k));
+    Output {
+        bytes: bytes,
+        length: length,
+    }
+}
