@@ -13,6 +13,7 @@ use Rattle.laws.specs.Below.{tabulate}
 use Rattle.laws.specs.Answer.{ask, Answer, accepted, refused, answer, andNext}
 use Rattle.laws.proofs.Answer.{valueOr, not-accepted, and-next-passes, and-next-refused, and-next-accepted, and-next-either}
 use Rattle.laws.proofs.Lists.{length-tabulate, getD-tabulate}
+use Rattle.io.specs.Counts.{Counts}
 use Rattle.lines.specs.Lines.{lineOf}
 use Rattle.member.specs.Opening.{largest}
 use Rattle.schedule.specs.Schedule.{Schedule, scheduleOf}
@@ -119,6 +120,13 @@ module _ (text votes crashes reaches : List ℕ) (ev : length votes ≡ 32) (ec 
     pub refusal-printed : refusalText number k (lineOf k text) ≡ outputOf text largest longest
     unfolding outputOf
     refusal-printed = sym (ap (printed text) text-refused)
+
+-- The length counts bytes at the start of the buffer.
+pub counts : (written : List ℕ) {r : Output} → r ≡ outputIs written → r .length ≤ 2112 → Counts (r .length) (r .bytes)
+unfolding padded
+counts written {r} e fits =
+    let long : length (r .bytes) ≡ 2112 = ap (λ (x : Output). length (x .bytes)) e ∙ length-tabulate 2112 (λ k. getD written k 0) in
+    (omega arith, sym (length-take-le (r .length) (r .bytes) (omega arith)))
 
 -- Demand 3 of the bytes that are answered.
 pub keeps-demand-3 : (text : List ℕ) (r : Output) → r ≡ outputIs (outputOf text largest longest) → r .length ≤ 2112 → OutputKeepsDemand3 text r

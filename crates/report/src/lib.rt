@@ -7,7 +7,7 @@ mod report_lines;
 mod whole;
 
 ghost use mathlib.Core.Path.{_≡_};
-ghost use Prim.Native.Nat.{_≤_};
+ghost use Rattle.io.specs.Counts.{Counts};
 ghost use Rattle.member.specs.Opening.{largest};
 ghost use Rattle.text.specs.Reading.{longest};
 ghost use Rattle.text.specs.Output.{outputOf};
@@ -24,7 +24,7 @@ pub struct Output {
 // The whole output for a text.
 pub fn printed(text: &[u8]) -> Output
     ensures output { λ r. ⌜ r ≡ outputIs (outputOf (now (text .entry)) largest longest) ⌝ }
-    ensures fits { λ r. ⌜ r .length ≤ 2112 ⌝ }
+    ensures fits { λ r. ⌜ Counts (r .length) (r .bytes) ⌝ }
     ensures demand_3 { λ r. ⌜ OutputKeepsDemand3 (now (text .entry)) r ⌝ }
 {
     let mut votes = whole::blank_bytes();
