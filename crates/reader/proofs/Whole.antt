@@ -2,13 +2,13 @@
 -- exactly where all of them are passed. Assumes nothing.
 use mathlib.Core.Path.{_≡_, sym, ap, ap₂, _∙_, subst}
 use mathlib.Core.Logic.{inl, inr}
-use mathlib.Core.Bool.{true, false}
 use mathlib.Core.List.{List, _++_}
+use mathlib.Core.Bool.{true, false}
 use Prim.Native.Nat.{ℕ, _≤_}
 use native.Mathlib.Omega.{arith}
 use borrow.Author.Tests.{eqb-true}
-use lib.Dec.{eqb}
 use lib.ListN.{length, take, drop}
+use lib.Dec.{eqb}
 use lib.Seq.{length-take-le}
 use Rattle.laws.specs.Below.{tabulate}
 use Rattle.laws.specs.Answer.{ask, Answer, accepted, refused, answer, andNext, nextEach}

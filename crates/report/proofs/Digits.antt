@@ -7,10 +7,10 @@ use native.Mathlib.Nat.{mod-eq-of-lt, pow-suc, one-le-pow}
 use native.Mathlib.Omega.{arith}
 use borrow.Author.Tests.{lt-ltb, le-ltb}
 use lib.Dec.{ltb}
-use Rattle.laws.proofs.Test.{cond-true, cond-false}
 use Rattle.io.specs.Digits.{glyph, digits, Fewest}
-use Rattle.fields.proofs.Digits.{one-place}
+use Rattle.laws.proofs.Test.{cond-true, cond-false}
 use Rattle.fields.specs.Decimal.{letter, decimalIn, decimal}
+use Rattle.fields.proofs.Digits.{one-place}
 
 glyph-letter : (d : ℕ) → d < 10 → glyph d ≡ letter d
 glyph-letter d l = cond-true (ltb d 10) (48 + d) (87 + d) (lt-ltb d 10 l)

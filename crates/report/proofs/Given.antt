@@ -7,8 +7,8 @@ use mathlib.Core.Bool.{Bool}
 use Prim.Native.Nat.{ℕ, _≤_}
 use native.Mathlib.Omega.{arith}
 use borrow.Author.Tests.{eq-eqb, eqb-true, eqb-false}
-use lib.Dec.{eqb}
 use lib.ListN.{length, getD}
+use lib.Dec.{eqb}
 use Rattle.laws.specs.Answer.{Answer, accepted}
 use Rattle.laws.proofs.Test.{true-or-false, cond-true}
 use Rattle.laws.proofs.Answer.{answer-accepted, valueOr}

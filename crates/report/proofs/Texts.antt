@@ -9,11 +9,11 @@ use native.Mathlib.Omega.{arith}
 use borrow.Author.Tests.{eq-eqb}
 use lib.ListN.{length, getD, take}
 use lib.Seq.{take-at, length-take-le, getD-take, ext-getD}
+use Rattle.io.specs.Counts.{Counts}
 use Rattle.laws.specs.Below.{tabulate}
 use Rattle.laws.specs.Answer.{ask, Answer, accepted, refused, answer, andNext}
 use Rattle.laws.proofs.Answer.{valueOr, not-accepted, and-next-passes, and-next-refused, and-next-accepted, and-next-either}
 use Rattle.laws.proofs.Lists.{length-tabulate, getD-tabulate}
-use Rattle.io.specs.Counts.{Counts}
 use Rattle.lines.specs.Lines.{lineOf}
 use Rattle.member.specs.Opening.{largest}
 use Rattle.schedule.specs.Schedule.{Schedule, scheduleOf}

@@ -1,6 +1,8 @@
+-- `read` meets its contract: what the tables, the head and the rest of the text answer, in order, is the answer. Assumes nothing.
 use mathlib.Core.Path.{_≡_, refl, sym, ap, _∙_}
 use mathlib.Core.Bool.{true}
 use Prim.Native.Nat.{_≤_}
+use borrow.Author.Needs.{needs}
 use Rattle.laws.specs.Answer.{accepted}
 use Rattle.laws.proofs.Test.{was-false, was-true}
 use Rattle.member.specs.Opening.{largest}
@@ -9,15 +11,12 @@ use Rattle.text.specs.Reading.{longest, sizesIn}
 use Rattle.reader.specs.Answers.{readingIs, tablesOf, readQuestions}
 use Rattle.reader.specs.Parts.{linesIs, restQuestions}
 use Rattle.reader.proofs.Whole.{tables-long, tables-refuse, head-refused, head-passed, read-refused, read-accepted, table-kept, table-read}
-use borrow.Author.Needs.{needs}
 use Rattle.reader.proofs.read.Statement.{statement}
 use Rattle.reader.proofs.read.Tie as tie
 
--- src/lib.rt:47:9
 are-of-size-requires : tie.Need-are-of-size-requires
 are-of-size-requires c κs = search needs
 
--- src/lib.rt:48:9
 returns : tie.Need-returns
 returns c =
     let a = c .before .before .before .before .before .before .args in
@@ -28,19 +27,15 @@ returns c =
 sized : (c : tie.Else1) → let a = c .before .before .before .before .before .before .args in tablesOf largest (a .votes .now) (a .crashes .now) (a .reaches .now) ≡ true
 sized c = was-true (c .before .are-of-size .ensures _ _ _ refl refl refl) (c .if1 .left)
 
--- src/lib.rt:50:9
 read-head-requires : tie.Need-read-head-requires
 read-head-requires c κs = search needs
 
--- src/lib.rt:51:23
 enum-known-head : tie.Need-enum-known-head
 enum-known-head c = search needs
 
--- src/lib.rt:52:9
 enum-told : tie.Need-enum-told
 enum-told c = search needs
 
--- src/lib.rt:52:9
 returns-2 : tie.Need-returns-2
 returns-2 c =
     let h = c .before .before in
@@ -59,7 +54,6 @@ passed-head c =
     let a = h .before .before .before .before .before .before .before .args in
     head-passed (a .text .now) largest longest (a .votes .now) (a .crashes .now) (a .reaches .now) (sized (h .before)) (sym (ap readingIs (c .head .given .1)) ∙ h .read-head .ensures)
 
--- src/lib.rt:54:9
 read-rest-requires : tie.Need-read-rest-requires
 read-rest-requires c κs =
     let d = c .before .before .before .before in
@@ -67,23 +61,18 @@ read-rest-requires c κs =
     let same = p .1 in
     ((p .2, ap (λ (s : Sizes). s .n) same, ap (λ (s : Sizes). s .t) same), tables-long largest _ _ _ (sized (d .before .before .before)))
 
--- src/lib.rt:55:27
 enum-known-rest : tie.Need-enum-known-rest
 enum-known-rest c = search needs
 
--- src/lib.rt:56:9
 same-length : tie.Need-same-length
 same-length c = search needs
 
--- src/lib.rt:56:9
 same-length-2 : tie.Need-same-length-2
 same-length-2 c = search needs
 
--- src/lib.rt:56:9
 same-length-3 : tie.Need-same-length-3
 same-length-3 c = search needs
 
--- src/lib.rt:56:9
 -- what the rest answers is answered, and the tables are as it left them
 answered-by-rest : (c : tie.After-read-rest) → let a = c .before .before .before .before .before .before .before .before .before .before .before .before .before .before .args in linesIs (c .read-rest .result) ≡ readQuestions largest longest (a .text .now) (a .votes .now) (a .crashes .now) (a .reaches .now)
 answered-by-rest c = c .read-rest .ensures .0 ∙ sym (passed-head (c .before .before .before .before .before) .0)
@@ -103,19 +92,15 @@ returns-3 c =
 enum-told-2 : tie.Need-enum-told-2
 enum-told-2 c = search needs
 
--- src/lib.rt:41:1
 same-length-4 : tie.Need-same-length-4
 same-length-4 c = search needs
 
--- src/lib.rt:41:1
 same-length-5 : tie.Need-same-length-5
 same-length-5 c = search needs
 
--- src/lib.rt:41:1
 same-length-6 : tie.Need-same-length-6
 same-length-6 c = search needs
 
--- src/lib.rt:41:1
 returns-4 : tie.Need-returns-4
 returns-4 c =
     let r = c .before .before .before .before .before .before .before .before in

@@ -1,4 +1,7 @@
+-- `printed` meets its contract: an answer of the reader's with n and t means an accepted text whose schedule is in the tables, and a refusal a refused
+-- text. Assumes nothing.
 use mathlib.Core.Path.{_≡_, sym, ap, _∙_}
+use borrow.Author.Needs.{needs}
 use lib.ListN.{length, take}
 use Rattle.laws.specs.Answer.{accepted, refused}
 use Rattle.member.specs.Opening.{largest}
@@ -7,43 +10,33 @@ use Rattle.text.specs.Reading.{longest, scheduleIn}
 use Rattle.reader.specs.Answers.{readingIs, readAnswer}
 use Rattle.report.specs.Answers.{outputIs}
 use Rattle.report.proofs.Texts.{schedule-read, n-small, read-question, report-printed, line-shown, refusal-printed, counts, keeps-demand-3}
-use borrow.Author.Needs.{needs}
 use Rattle.report.proofs.printed.Statement.{statement}
 use Rattle.report.proofs.printed.Tie as tie
 
--- src/lib.rt:30:21
 blank-bytes-requires : tie.Need-blank-bytes-requires
 blank-bytes-requires c κs = search needs
 
--- src/lib.rt:31:23
 blank-bytes-requires-2 : tie.Need-blank-bytes-requires-2
 blank-bytes-requires-2 c κs = search needs
 
--- src/lib.rt:32:23
 blank-words-requires : tie.Need-blank-words-requires
 blank-words-requires c κs = search needs
 
--- src/lib.rt:33:38
 slice-aggregate-read : tie.Need-slice-aggregate-read
 slice-aggregate-read c = search needs
 
--- src/lib.rt:33:50
 slice-aggregate-read-2 : tie.Need-slice-aggregate-read-2
 slice-aggregate-read-2 c = search needs
 
--- src/lib.rt:33:64
 slice-aggregate-read-3 : tie.Need-slice-aggregate-read-3
 slice-aggregate-read-3 c = search needs
 
--- src/lib.rt:33:9
 read-requires : tie.Need-read-requires
 read-requires c κs = search needs
 
--- src/lib.rt:35:23
 enum-known-reading : tie.Need-enum-known-reading
 enum-known-reading c = search needs
 
--- src/lib.rt:35:32
 -- the reader's own tables have 32 entries
 sized : (c : tie.After-read) → (length (c .before .before .before .before .before .before .blank-bytes .result) ≡ 32) × (length (c .before .before .before .before .before .blank-bytes2 .result) ≡ 32) × (length (c .before .before .before .before .blank-words .result) ≡ 32)
 sized c = (search needs, search needs, search needs)
@@ -66,11 +59,9 @@ of-tables-requires c κs =
     let long = sized (d .before .before .before .before .before) in
     (n-small _ _ _ _ (long .0) (long .1) (long .2) (accepts d), read-question _ _ _ _ (long .0) (long .1) (long .2) (accepts d) _ (schedule d))
 
--- src/lib.rt:36:26
 enum-known-reading-2 : tie.Need-enum-known-reading-2
 enum-known-reading-2 c = search needs
 
--- src/lib.rt:36:40
 -- the text is refused
 refuses : (c : tie.After-reading2) → let r = c .before .before .before .before .before in refused (c .reading2 .given .0 .0) (c .reading2 .given .0 .1 .0) ≡ readAnswer largest longest (r .before .before .before .before .before .before .before .before .args .text .now) (r .before .before .before .before .before .before .blank-bytes .result) (r .before .before .before .before .before .blank-bytes2 .result) (r .before .before .before .before .blank-words .result)
 refuses c = let r = c .before .before .before .before .before in sym (ap readingIs (c .reading2 .given .1)) ∙ r .read .ensures .0
@@ -81,7 +72,6 @@ refused-requires c κs =
     let long = sized (d .before .before .before .before .before) in
     line-shown _ _ _ _ (long .0) (long .1) (long .2) (refuses d)
 
--- src/lib.rt:25:1
 returns : tie.Need-returns
 returns c =
     let d = c .before .before in
@@ -90,7 +80,6 @@ returns c =
     let e = c .of-tables .ensures .0 ∙ ap outputIs (report-printed text _ _ _ (long .0) (long .1) (long .2) (accepts d) _ (schedule d)) in
     (e, (counts _ e (c .of-tables .ensures .1), keeps-demand-3 text _ e (c .of-tables .ensures .1)))
 
--- src/lib.rt:25:1
 returns-2 : tie.Need-returns-2
 returns-2 c =
     let d = c .before .before in

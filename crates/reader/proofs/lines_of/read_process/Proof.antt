@@ -1,65 +1,54 @@
+-- `read_process` meets its contract: each field that is found hands the text after it to the next. Assumes nothing.
 use mathlib.Core.Path.{_≡_, refl, _∙_}
 use Prim.Native.Nat.{_+_}
 use native.Mathlib.Omega.{arith}
+use borrow.Author.Needs.{needs}
 use Rattle.lines.specs.Lines.{lf}
+use Rattle.lines.proofs.from.Reads as from-reads
 use Rattle.fields.specs.Found.{found}
 use Rattle.fields.specs.Fields.{space, numberField, digitField, reachField, reachIs}
-use Rattle.reader.proofs.LineForms.{field-found, field-wrong, reach-found, reach-wrong, reach-in-32, no-id, other-id, no-vote, no-crash, no-reach, whole-entry}
-use borrow.Author.Needs.{needs}
-use Rattle.reader.proofs.lines_of.read_process.Statement.{statement}
-use Rattle.reader.proofs.lines_of.read_process.Tie as tie
-use Rattle.reader.proofs.lines_of.read_process.Reads as reads
-use Rattle.reader.proofs.lines_of.read_process.Lts as lts
 use Rattle.fields.proofs.digit_field.Reads as digit-field-reads
 use Rattle.fields.proofs.number_field.Reads as number-field-reads
 use Rattle.fields.proofs.reach_field.Reads as reach-field-reads
-use Rattle.lines.proofs.from.Reads as from-reads
+use Rattle.reader.proofs.LineForms.{field-found, field-wrong, reach-found, reach-wrong, reach-in-32, no-id, other-id, no-vote, no-crash, no-reach, whole-entry}
+use Rattle.reader.proofs.lines_of.read_process.Reads as reads
+use Rattle.reader.proofs.lines_of.read_process.Lts as lts
+use Rattle.reader.proofs.lines_of.read_process.Statement.{statement}
+use Rattle.reader.proofs.lines_of.read_process.Tie as tie
 
--- src/lines_of.rt:33:37
 number-field-requires : tie.Need-number-field-requires
 number-field-requires c κs = search needs
 
--- src/lines_of.rt:33:22
 enum-known-id : tie.Need-enum-known-id
 enum-known-id c = search needs
 
--- src/lines_of.rt:34:9
 enum-told : tie.Need-enum-told
 enum-told c = search needs
 
--- src/lines_of.rt:34:9
 returns : tie.Need-returns
 returns c = no-id _ _ _ (field-wrong _ (c .before .before .number-field .ensures .0) (c .enum-told .given .1))
 
--- src/lines_of.rt:36:8
 cast-if1 : tie.Need-cast-if1
 cast-if1 c = search needs
 
--- src/lines_of.rt:36:23
 add-if1 : tie.Need-add-if1
 add-if1 c = search needs
 
--- src/lines_of.rt:37:9
 returns-2 : tie.Need-returns-2
 returns-2 c = other-id _ _ _ (field-found _ (c .before .before .before .before .number-field .ensures .0) (c .before .before .id .given .1) refl) (λ e. omega arith)
 
--- src/lines_of.rt:39:9
 from-requires : tie.Need-from-requires
 from-requires c κs = search needs
 
--- src/lines_of.rt:40:41
 digit-field-requires : tie.Need-digit-field-requires
 digit-field-requires c κs = search needs
 
--- src/lines_of.rt:40:22
 enum-known-vote : tie.Need-enum-known-vote
 enum-known-vote c = search needs
 
--- src/lines_of.rt:41:9
 enum-told-2 : tie.Need-enum-told-2
 enum-told-2 c = search needs
 
--- src/lines_of.rt:41:9
 -- the own number, as it should be
 own-number : (c : tie.After-from) → let a = c .before .before .before .before .before .before .before .args in numberField space (a .text .now) ≡ found (c .before .before .before .id .given .0 .0) (c .from .result .now)
 own-number c = field-found _ (c .before .before .before .before .before .number-field .ensures .0) (c .before .before .before .id .given .1) (c .from .ensures)
@@ -74,23 +63,18 @@ returns-3 c = let f = c .before .before .before in no-vote _ _ _ (own-number f) 
 vote : (c : tie.After-from2) → digitField space (c .before .before .before .before .before .from .result .now) ≡ found (c .before .before .vote .given .0 .0) (c .from2 .result .now)
 vote c = field-found _ (c .before .before .before .before .digit-field .ensures .0) (c .before .before .vote .given .1) (c .from2 .ensures)
 
--- src/lines_of.rt:43:9
 from-requires-2 : tie.Need-from-requires-2
 from-requires-2 c κs = search needs
 
--- src/lines_of.rt:44:43
 number-field-requires-2 : tie.Need-number-field-requires-2
 number-field-requires-2 c κs = search needs
 
--- src/lines_of.rt:44:22
 enum-known-crash : tie.Need-enum-known-crash
 enum-known-crash c = search needs
 
--- src/lines_of.rt:45:9
 enum-told-3 : tie.Need-enum-told-3
 enum-told-3 c = search needs
 
--- src/lines_of.rt:45:9
 returns-4 : tie.Need-returns-4
 returns-4 c =
     let g = c .before .before .before in
@@ -105,23 +89,18 @@ crash c = field-found _ (c .before .before .before .before .number-field2 .ensur
 reach : (c : tie.After-reach-field) → let n = c .before .before .before .before .before .before .before .before .before .before .before .before .before .before .before .before .before .before .args .n in reachIs (c .before .from3 .result .now) (c .reach-field .result) ≡ reachField lf (c .before .from3 .result .now) n
 reach c = let n = c .before .before .before .before .before .before .before .before .before .before .before .before .before .before .before .before .before .before .args .n in c .reach-field .ensures .0 ∙ reach-in-32 lf (c .before .from3 .result .now) n (omega arith)
 
--- src/lines_of.rt:47:9
 from-requires-3 : tie.Need-from-requires-3
 from-requires-3 c κs = search needs
 
--- src/lines_of.rt:48:34
 reach-field-requires : tie.Need-reach-field-requires
 reach-field-requires c κs = search needs
 
--- src/lines_of.rt:48:22
 enum-known-reach : tie.Need-enum-known-reach
 enum-known-reach c = search needs
 
--- src/lines_of.rt:49:9
 enum-told-4 : tie.Need-enum-told-4
 enum-told-4 c = search needs
 
--- src/lines_of.rt:49:9
 returns-5 : tie.Need-returns-5
 returns-5 c =
     let h = c .before .before .before in
@@ -129,7 +108,6 @@ returns-5 c =
     let f = g .before .before .before .before .before in
     no-reach _ _ _ (own-number f) (own-place f) (vote g) (crash h) (reach-wrong _ (reach (c .before .before)) (c .enum-told4 .given .1))
 
--- src/lines_of.rt:29:1
 returns-6 : tie.Need-returns-6
 returns-6 c =
     let h = c .before .before .before .before in

@@ -1,48 +1,40 @@
+-- `read_sizes` meets its contract: each field that is found hands the text after it to the next. Assumes nothing.
 use mathlib.Core.Path.{_≡_, refl}
+use borrow.Author.Needs.{needs}
+use Rattle.lines.proofs.from.Reads as from-reads
 use Rattle.fields.specs.Found.{found}
 use Rattle.fields.specs.Fields.{space, numberField}
+use Rattle.fields.proofs.number_field.Reads as number-field-reads
 use Rattle.reader.proofs.LineForms.{field-found, field-wrong, no-n, no-t, both-sizes}
-use borrow.Author.Needs.{needs}
-use Rattle.reader.proofs.lines_of.read_sizes.Statement.{statement}
-use Rattle.reader.proofs.lines_of.read_sizes.Tie as tie
 use Rattle.reader.proofs.lines_of.read_sizes.Reads as reads
 use Rattle.reader.proofs.lines_of.read_sizes.Lts as lts
-use Rattle.fields.proofs.number_field.Reads as number-field-reads
-use Rattle.lines.proofs.from.Reads as from-reads
+use Rattle.reader.proofs.lines_of.read_sizes.Statement.{statement}
+use Rattle.reader.proofs.lines_of.read_sizes.Tie as tie
 
--- src/lines_of.rt:18:33
 number-field-requires : tie.Need-number-field-requires
 number-field-requires c κs = search needs
 
--- src/lines_of.rt:18:22
 enum-known-n : tie.Need-enum-known-n
 enum-known-n c = search needs
 
--- src/lines_of.rt:19:9
 enum-told : tie.Need-enum-told
 enum-told c = search needs
 
--- src/lines_of.rt:19:9
 returns : tie.Need-returns
 returns c = no-n _ (field-wrong _ (c .before .before .number-field .ensures .0) (c .enum-told .given .1))
 
--- src/lines_of.rt:21:9
 from-requires : tie.Need-from-requires
 from-requires c κs = search needs
 
--- src/lines_of.rt:22:30
 number-field-requires-2 : tie.Need-number-field-requires-2
 number-field-requires-2 c κs = search needs
 
--- src/lines_of.rt:22:22
 enum-known-t : tie.Need-enum-known-t
 enum-known-t c = search needs
 
--- src/lines_of.rt:23:9
 enum-told-2 : tie.Need-enum-told-2
 enum-told-2 c = search needs
 
--- src/lines_of.rt:23:9
 -- the first number
 first : (c : tie.After-from) → let a = c .before .before .before .before .before .before .args in numberField space (a .text .now) ≡ found (c .before .before .n .given .0 .0) (c .from .result .now)
 first c = field-found _ (c .before .before .before .before .number-field .ensures .0) (c .before .before .n .given .1) (c .from .ensures)
@@ -50,15 +42,12 @@ first c = field-found _ (c .before .before .before .before .number-field .ensure
 returns-2 : tie.Need-returns-2
 returns-2 c = no-t _ (first (c .before .before .before)) (field-wrong _ (c .before .before .number-field2 .ensures .0) (c .enum-told2 .given .1))
 
--- src/lines_of.rt:25:22
 cast-t8 : tie.Need-cast-t8
 cast-t8 c = search needs
 
--- src/lines_of.rt:25:34
 cast-t9 : tie.Need-cast-t9
 cast-t9 c = search needs
 
--- src/lines_of.rt:15:1
 returns-3 : tie.Need-returns-3
 returns-3 c = both-sizes _ (first (c .before .before .before .before)) (field-found _ (c .before .before .before .number-field2 .ensures .0) (c .before .t .given .1) refl)
 

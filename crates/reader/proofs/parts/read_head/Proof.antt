@@ -1,9 +1,11 @@
+-- `read_head` meets its contract: each question that is passed goes on to the next. Assumes nothing.
 use mathlib.Core.Path.{_≡_, sym, ap, _∙_}
 use mathlib.Core.List.{List}
 use mathlib.Core.Option.{some}
 use mathlib.Core.Bool.{true}
 use Prim.Native.Nat.{ℕ}
 use native.Mathlib.Omega.{arith}
+use borrow.Author.Needs.{needs}
 use borrow.Author.Tests.{le-leb, lt-leb}
 use lib.ListN.{length}
 use lib.Dec.{leb}
@@ -16,23 +18,18 @@ use Rattle.text.specs.Forms.{sizesHeading, processesHeading, Sizes, sizesAt}
 use Rattle.text.specs.Reading.{longest, sizesIn}
 use Rattle.reader.specs.Parts.{valueOf, sizesIs}
 use Rattle.reader.proofs.InOrder.{not-found, is-found, found-value, part-after, head-8, head-1, head-2, head-sizes, head-3, head-passed}
-use borrow.Author.Needs.{needs}
 use Rattle.reader.proofs.parts.read_head.Statement.{statement}
 use Rattle.reader.proofs.parts.read_head.Tie as tie
 
--- src/parts.rt:31:9
 returns : tie.Need-returns
 returns c = let text = c .before .before .args .text .now in head-8 text _ _ _ (lt-leb (length text) longest (omega arith))
 
--- src/parts.rt:33:27
 slice-aggregate-starts-with : tie.Need-slice-aggregate-starts-with
 slice-aggregate-starts-with c = search needs
 
--- src/parts.rt:33:9
 starts-with-requires : tie.Need-starts-with-requires
 starts-with-requires c κs = search needs
 
--- src/parts.rt:34:9
 -- the text is not too long
 short : (c : tie.Else1) → leb (length (c .before .before .args .text .now)) longest ≡ true
 short c = let text = c .before .before .args .text .now in le-leb (length text) longest (omega arith)
@@ -40,27 +37,21 @@ short c = let text = c .before .before .args .text .now in le-leb (length text) 
 returns-2 : tie.Need-returns-2
 returns-2 c = head-1 _ _ _ _ (short (c .before .before .before)) (was-false (c .before .starts-with .ensures) (c .if2 .taken))
 
--- src/parts.rt:36:56
 line-start-requires : tie.Need-line-start-requires
 line-start-requires c κs = search needs
 
--- src/parts.rt:36:45
 from-requires : tie.Need-from-requires
 from-requires c κs = search needs
 
--- src/parts.rt:36:34
 read-sizes-requires : tie.Need-read-sizes-requires
 read-sizes-requires c κs = search needs
 
--- src/parts.rt:36:26
 enum-known-n : tie.Need-enum-known-n
 enum-known-n c = search needs
 
--- src/parts.rt:37:9
 enum-told : tie.Need-enum-told
 enum-told c = search needs
 
--- src/parts.rt:37:9
 -- line 1 is the heading
 heading : (c : tie.Else2) → startsWith sizesHeading (c .before .before .before .before .before .args .text .now) ≡ true
 heading c = was-true (c .before .starts-with .ensures) (c .if2 .left)
@@ -77,11 +68,9 @@ returns-3 c =
     let h = c .before .before .before .before .before in
     head-2 _ _ _ _ (short (h .before .before .before)) (heading h) (not-found (sizesAt (afterLines 1 text)) (sym (ap sizesIs (c .enum-told .given .1)) ∙ second (c .before .before)))
 
--- src/parts.rt:39:9
 size-question-requires : tie.Need-size-question-requires
 size-question-requires c κs = search needs
 
--- src/parts.rt:41:9
 -- the two values are those of the text
 values : (c : tie.After-n) → some (record { n = c .n .given .0 .0; t = c .n .given .0 .1 .0 }) ≡ valueOf (sizesAt (afterLines 1 (c .before .before .before .before .before .before .before .before .before .before .args .text .now)))
 values c = sym (ap sizesIs (c .n .given .1)) ∙ second (c .before .before)
@@ -99,23 +88,18 @@ returns-4 c =
     let v = values (c .before .before .before) in
     head-sizes _ _ _ _ (short (h .before .before .before)) (heading h) (is-found (sizesAt (afterLines 1 text)) v) _ (sizes (c .before)) (c .if3 .taken)
 
--- src/parts.rt:43:32
 line-start-requires-2 : tie.Need-line-start-requires-2
 line-start-requires-2 c κs = search needs
 
--- src/parts.rt:43:21
 from-requires-2 : tie.Need-from-requires-2
 from-requires-2 c κs = search needs
 
--- src/parts.rt:43:54
 slice-aggregate-starts-with-2 : tie.Need-slice-aggregate-starts-with-2
 slice-aggregate-starts-with-2 c = search needs
 
--- src/parts.rt:43:9
 starts-with-requires-2 : tie.Need-starts-with-requires-2
 starts-with-requires-2 c κs = search needs
 
--- src/parts.rt:44:9
 -- line 3 is compared
 third : (c : tie.After-starts-with2) → c .starts-with2 .result ≡ startsWith processesHeading (afterLines 2 (c .before .before .before .before .before .before .before .before .before .before .before .before .before .before .before .before .before .args .text .now))
 third c =
@@ -129,7 +113,6 @@ returns-5 c =
     let s = c .before .before .before .before .before .before in
     head-3 _ _ _ _ (short (h .before .before .before)) (heading h) (is-found (sizesAt (afterLines 1 text)) (values (s .before .before))) _ (sizes s) (c .before .before .before .before .before .if3 .left) (was-false (third (c .before)) (c .if4 .taken))
 
--- src/parts.rt:27:1
 returns-6 : tie.Need-returns-6
 returns-6 c =
     let text = c .before .before .before .before .before .before .before .before .before .before .before .before .before .before .before .before .before .before .args .text .now in

@@ -1,10 +1,11 @@
+-- `read_processes` meets its contract: after i lines their questions are passed, and the tables hold what stands there. Assumes nothing.
 use mathlib.Core.Path.{_≡_, sym, ap, ap₂, _∙_}
 use mathlib.Core.List.{List}
 use mathlib.Core.Option.{some}
 use Prim.Native.Nat.{ℕ, _+_, _-_, _≤_, _<_}
 use native.Mathlib.Omega.{arith}
-use borrow.Author.Needs.{needs}
 use borrow.Author.Count.{below-none, below-more}
+use borrow.Author.Needs.{needs}
 use Rattle.laws.specs.Answer.{accepted, refused, nextEach}
 use Rattle.laws.proofs.Answer.{next-each-passes, next-each-refused}
 use Rattle.laws.proofs.Filled.{each-none, each-more, each-all}
@@ -31,49 +32,38 @@ Inv-loop text n t votes₀ crashes₀ reaches₀ at₀ i₀ votes crashes reache
 abbrev μ-loop : tie.MeasureT-loop
 μ-loop text n t votes₀ crashes₀ reaches₀ at₀ i₀ votes crashes reaches at i = n - i
 
--- src/parts.rt:63:9
 line-start-requires : tie.Need-line-start-requires Inv-loop μ-loop
 line-start-requires c κs = search needs
 
--- src/parts.rt:65:5
 loop-holds : tie.Need-loop-holds Inv-loop μ-loop
 loop-holds c =
     let long = c .before .before .before .before .before .pre .1 in
     (omega arith, c .line-start .ensures, below-none (λ k. entryQuestions _ k ≡ accepted tt), each-none (long .0), each-none (long .1), each-none (long .2))
 
--- src/parts.rt:66:69
 from-requires : tie.Need-from-requires Inv-loop μ-loop
 from-requires c κs = search needs
 
--- src/parts.rt:66:56
 read-process-requires : tie.Need-read-process-requires Inv-loop μ-loop
 read-process-requires c κs = (omega arith, omega arith)
 
--- src/parts.rt:66:34
 enum-known-vote : tie.Need-enum-known-vote Inv-loop μ-loop
 enum-known-vote c = search needs
 
--- src/parts.rt:67:38
 enum-told : tie.Need-enum-told Inv-loop μ-loop
 enum-told c = search needs
 
--- src/parts.rt:67:38
 add-t16 : tie.Need-add-t16 Inv-loop μ-loop
 add-t16 c = omega arith
 
--- src/parts.rt:67:13
 same-length : tie.Need-same-length Inv-loop μ-loop
 same-length c = omega arith
 
--- src/parts.rt:67:13
 same-length-2 : tie.Need-same-length-2 Inv-loop μ-loop
 same-length-2 c = omega arith
 
--- src/parts.rt:67:13
 same-length-3 : tie.Need-same-length-3 Inv-loop μ-loop
 same-length-3 c = omega arith
 
--- src/parts.rt:67:13
 -- the line of the process at place i is read from where it starts
 entry-read : (d : tie.After-read-process Inv-loop μ-loop) → let a = d .before .before .before .before .before .before .before .before .before .args in let i = d .before .before .before .loop .i in
     processIs (d .read-process .result) ≡ valueOf (entryAt (sizesIn (a .text .now) .n) i (afterLines (i + 3) (a .text .now)))
@@ -98,27 +88,21 @@ returns c =
     let d = c .before .before in
     (first-refused d 9 (line-wrong _ _ (sym (ap processIs (c .enum-told .given .1)) ∙ entry-read d)), tt)
 
--- src/parts.rt:69:13
 process-question-requires : tie.Need-process-question-requires Inv-loop μ-loop
 process-question-requires c κs = search needs
 
--- src/parts.rt:71:43
 add-t17 : tie.Need-add-t17 Inv-loop μ-loop
 add-t17 c = omega arith
 
--- src/parts.rt:71:13
 same-length-4 : tie.Need-same-length-4 Inv-loop μ-loop
 same-length-4 c = omega arith
 
--- src/parts.rt:71:13
 same-length-5 : tie.Need-same-length-5 Inv-loop μ-loop
 same-length-5 c = omega arith
 
--- src/parts.rt:71:13
 same-length-6 : tie.Need-same-length-6 Inv-loop μ-loop
 same-length-6 c = omega arith
 
--- src/parts.rt:71:13
 -- the values of the line, and their questions
 entry : tie.After-vote Inv-loop μ-loop → Entry
 entry c = record { vote = c .vote .given .0 .0; crash = c .vote .given .0 .1 .0; reach = c .vote .given .0 .1 .1 .0 }
@@ -151,35 +135,27 @@ returns-2 c =
     let d = v .before .before in
     (first-refused d _ (entry-refused _ _ (entry v) (entry-values v) (place-below v) _ (asked (c .before)) (c .if1 .taken)), tt)
 
--- src/parts.rt:73:9
 slice-write-votes : tie.Need-slice-write-votes Inv-loop μ-loop
 slice-write-votes c = omega arith
 
--- src/parts.rt:74:9
 slice-write-crashes : tie.Need-slice-write-crashes Inv-loop μ-loop
 slice-write-crashes c = omega arith
 
--- src/parts.rt:75:9
 mul-reaches : tie.Need-mul-reaches Inv-loop μ-loop
 mul-reaches c = omega arith
 
--- src/parts.rt:75:9
 slice-write-reaches : tie.Need-slice-write-reaches Inv-loop μ-loop
 slice-write-reaches c = omega arith
 
--- src/parts.rt:76:9
 next-line-requires : tie.Need-next-line-requires Inv-loop μ-loop
 next-line-requires c κs = search needs
 
--- src/parts.rt:77:9
 add-i : tie.Need-add-i Inv-loop μ-loop
 add-i c = omega arith
 
--- src/parts.rt:65:5
 loop-less : tie.Need-loop-less Inv-loop μ-loop
 loop-less c = omega arith
 
--- src/parts.rt:65:5
 loop-again : tie.Need-loop-again Inv-loop μ-loop
 unfolding entry
 loop-again c =
@@ -199,19 +175,15 @@ loop-again c =
       each-more (omega arith) (k .loop .inv .5) (ap (λ (x : Entry). x .reach) same),
     )
 
--- src/parts.rt:50:1
 same-length-7 : tie.Need-same-length-7 Inv-loop μ-loop
 same-length-7 c = omega arith
 
--- src/parts.rt:50:1
 same-length-8 : tie.Need-same-length-8 Inv-loop μ-loop
 same-length-8 c = omega arith
 
--- src/parts.rt:50:1
 same-length-9 : tie.Need-same-length-9 Inv-loop μ-loop
 same-length-9 c = omega arith
 
--- src/parts.rt:50:1
 returns-3 : tie.Need-returns-3 Inv-loop μ-loop
 returns-3 c =
     let a = c .before .before .before .before .before .before .before .args in

@@ -1,50 +1,43 @@
+-- `read_rest` meets its contract: the tables are filled where the questions of the lines and those after them are passed, and else not touched.
+-- Assumes nothing.
 use mathlib.Core.Path.{_≡_, sym, ap, _∙_}
 use native.Mathlib.Omega.{arith}
+use borrow.Author.Needs.{needs}
 use lib.ListN.{length, take}
 use lib.Seq.{length-take-le}
 use Rattle.reader.specs.declared.Lines.the-variants.{Passed}
 use Rattle.reader.specs.Parts.{linesIs, EntriesRead, restQuestions}
 use Rattle.reader.proofs.Whole.{gives, keeps, filled-with, lines-refuse, lines-pass, read-votes, read-crashes, read-reaches, entries}
-use borrow.Author.Needs.{needs}
 use Rattle.reader.proofs.rest.read_rest.Statement.{statement}
 use Rattle.reader.proofs.rest.read_rest.Tie as tie
 
--- src/rest.rt:30:25
 blank-bytes-requires : tie.Need-blank-bytes-requires
 blank-bytes-requires c κs = search needs
 
--- src/rest.rt:31:27
 blank-bytes-requires-2 : tie.Need-blank-bytes-requires-2
 blank-bytes-requires-2 c κs = search needs
 
--- src/rest.rt:32:27
 blank-words-requires : tie.Need-blank-words-requires
 blank-words-requires c κs = search needs
 
--- src/rest.rt:37:9
 slice-aggregate-read-processes : tie.Need-slice-aggregate-read-processes
 slice-aggregate-read-processes c = search needs
 
--- src/rest.rt:38:9
 slice-aggregate-read-processes-2 : tie.Need-slice-aggregate-read-processes-2
 slice-aggregate-read-processes-2 c = search needs
 
--- src/rest.rt:39:9
 slice-aggregate-read-processes-3 : tie.Need-slice-aggregate-read-processes-3
 slice-aggregate-read-processes-3 c = search needs
 
--- src/rest.rt:33:9
 read-processes-requires : tie.Need-read-processes-requires
 read-processes-requires c κs = search needs
 
 enum-told : tie.Need-enum-told
 enum-told c = search needs
 
--- src/rest.rt:42:9
 enum-told-2 : tie.Need-enum-told-2
 enum-told-2 c = search needs
 
--- src/rest.rt:42:9
 -- the questions of the lines refuse, and so does the rest
 returns : tie.Need-returns
 returns c =
@@ -55,11 +48,9 @@ returns c =
     let e = lines-refuse (a .text .now) (a .n) (a .t) (pre .0 .1) (pre .0 .2) (sym (p .read-processes .ensures .0) ∙ told) in
     (told ∙ sym e, (keeps _ _ e, (keeps _ _ e, keeps _ _ e)))
 
--- src/rest.rt:44:38
 array-share-prefix-own-crashes : tie.Need-array-share-prefix-own-crashes
 array-share-prefix-own-crashes c = search needs
 
--- src/rest.rt:44:38
 -- what was read, where the questions of the lines are passed
 tables-read : (c : tie.After-enum-told) → let p = c .before .before .before .before .before in let a = p .before .before .before .before .before .before .before .before .before .before .before .args in
     EntriesRead Passed (a .text .now) (a .n) (p .read-processes .last .1 .1 .1 .0) (p .read-processes .last .1 .1 .1 .1 .0) (p .read-processes .last .1 .1 .1 .1 .1 .0)
@@ -75,18 +66,15 @@ front-long c =
 slice-aggregate-read-tail : tie.Need-slice-aggregate-read-tail
 slice-aggregate-read-tail c = sym (front-long c)
 
--- src/rest.rt:44:9
 read-tail-requires : tie.Need-read-tail-requires
 read-tail-requires c κs = (c .before .before .before .before .before .before .before .before .before .before .before .before .before .before .before .before .before .pre .0 .0, front-long c)
 
 enum-told-3 : tie.Need-enum-told-3
 enum-told-3 c = search needs
 
--- src/rest.rt:46:9
 enum-told-4 : tie.Need-enum-told-4
 enum-told-4 c = search needs
 
--- src/rest.rt:46:9
 -- what is asked after the lines is then the answer of the rest
 tail-asked : (c : tie.After-read-tail) → linesIs (c .read-tail .result) ≡ restQuestions (c .before .before .before .before .before .before .before .before .before .before .before .before .before .before .before .before .before .before .args .text .now)
 tail-asked c =
@@ -105,23 +93,18 @@ returns-2 c =
     let e = sym (tail-asked (c .before .before)) ∙ told in
     (told ∙ sym e, (keeps _ _ e, (keeps _ _ e, keeps _ _ e)))
 
--- src/rest.rt:48:5
 fill-requires : tie.Need-fill-requires
 fill-requires c κs = search needs
 
--- src/rest.rt:15:1
 same-length : tie.Need-same-length
 same-length c = search needs
 
--- src/rest.rt:15:1
 same-length-2 : tie.Need-same-length-2
 same-length-2 c = search needs
 
--- src/rest.rt:15:1
 same-length-3 : tie.Need-same-length-3
 same-length-3 c = search needs
 
--- src/rest.rt:15:1
 returns-3 : tie.Need-returns-3
 returns-3 c =
     let f = c .before .before .before .before .before .before in

@@ -1,3 +1,4 @@
+-- `fill` meets its contract: after i entries the first i are copied. Assumes nothing.
 use mathlib.Core.Path.{_≡_, refl, ap, _∙_}
 use mathlib.Core.List.{List}
 use Prim.Native.Nat.{ℕ, _-_, _≤_}
@@ -21,51 +22,39 @@ Inv-loop n votes₀ crashes₀ reaches₀ voted crashed reached i₀ votes crash
 abbrev μ-loop : tie.MeasureT-loop
 μ-loop n votes₀ crashes₀ reaches₀ voted crashed reached i₀ votes crashes reaches i = n - i
 
--- src/tables.rt:42:5
 loop-holds : tie.Need-loop-holds Inv-loop μ-loop
 loop-holds c = (omega arith, c .pre .1 .0, c .pre .1 .1, c .pre .1 .2, refl, refl, refl)
 
--- src/tables.rt:43:20
 array-read-votes : tie.Need-array-read-votes Inv-loop μ-loop
 array-read-votes c = omega arith
 
--- src/tables.rt:43:9
 slice-write-votes : tie.Need-slice-write-votes Inv-loop μ-loop
 slice-write-votes c = omega arith
 
--- src/tables.rt:44:22
 array-read-crashes : tie.Need-array-read-crashes Inv-loop μ-loop
 array-read-crashes c = omega arith
 
--- src/tables.rt:44:9
 slice-write-crashes : tie.Need-slice-write-crashes Inv-loop μ-loop
 slice-write-crashes c = omega arith
 
--- src/tables.rt:45:22
 mul-reaches : tie.Need-mul-reaches Inv-loop μ-loop
 mul-reaches c = omega arith
 
--- src/tables.rt:45:22
 array-read-reaches : tie.Need-array-read-reaches Inv-loop μ-loop
 array-read-reaches c = omega arith
 
--- src/tables.rt:45:9
 mul-reaches-2 : tie.Need-mul-reaches-2 Inv-loop μ-loop
 mul-reaches-2 c = omega arith
 
--- src/tables.rt:45:9
 slice-write-reaches : tie.Need-slice-write-reaches Inv-loop μ-loop
 slice-write-reaches c = omega arith
 
--- src/tables.rt:46:9
 add-i : tie.Need-add-i Inv-loop μ-loop
 add-i c = omega arith
 
--- src/tables.rt:42:5
 loop-less : tie.Need-loop-less Inv-loop μ-loop
 loop-less c = omega arith
 
--- src/tables.rt:42:5
 loop-again : tie.Need-loop-again Inv-loop μ-loop
 loop-again c =
     let a = c .before .before .args in
@@ -82,19 +71,15 @@ loop-again c =
       ap (λ (table : List ℕ). set table (loop .i) (getD (a .t4) (loop .i) 0)) (loop .inv .6) ∙ copied-more (a .t4) (a .reaches .now) (loop .i) (omega arith) (omega arith),
     )
 
--- src/tables.rt:26:1
 same-length : tie.Need-same-length Inv-loop μ-loop
 same-length c = omega arith
 
--- src/tables.rt:26:1
 same-length-2 : tie.Need-same-length-2 Inv-loop μ-loop
 same-length-2 c = omega arith
 
--- src/tables.rt:26:1
 same-length-3 : tie.Need-same-length-3 Inv-loop μ-loop
 same-length-3 c = omega arith
 
--- src/tables.rt:26:1
 returns : tie.Need-returns Inv-loop μ-loop
 returns c =
     let a = c .before .before .args in

@@ -1,42 +1,36 @@
+-- `put_field` meets its contract: the digits that `io::decimal` gives are written, and then the byte that ends them. Assumes nothing.
 use mathlib.Core.Path.{_∙_}
+use borrow.Author.Needs.{needs}
+use Rattle.io.proofs.decimal.Reads as decimal-reads
+use Rattle.fields.specs.Decimal.{decimal}
 use Rattle.text.specs.Written.{field}
 use Rattle.report.proofs.Digits.{digits-decimal}
 use Rattle.report.proofs.Buffer.{writes-same, writes-more}
-use Rattle.fields.specs.Decimal.{decimal}
-use borrow.Author.Needs.{needs}
-use Rattle.report.proofs.bytes.put_field.Statement.{statement}
-use Rattle.report.proofs.bytes.put_field.Tie as tie
 use Rattle.report.proofs.bytes.put_field.Reads as reads
 use Rattle.report.proofs.bytes.put_field.Lts as lts
-use Rattle.io.proofs.decimal.Reads as decimal-reads
 use Rattle.report.proofs.bytes.put.Reads as put-reads
 use Rattle.report.proofs.bytes.put_byte.Reads as put-byte-reads
+use Rattle.report.proofs.bytes.put_field.Statement.{statement}
+use Rattle.report.proofs.bytes.put_field.Tie as tie
 
--- src/bytes.rt:36:9
 decimal-requires : tie.Need-decimal-requires
 decimal-requires c κs = search needs
 
--- src/bytes.rt:37:32
 array-share-prefix-digits : tie.Need-array-share-prefix-digits
 array-share-prefix-digits c = search needs
 
--- src/bytes.rt:37:32
 slice-aggregate-put : tie.Need-slice-aggregate-put
 slice-aggregate-put c = search needs
 
--- src/bytes.rt:37:9
 put-requires : tie.Need-put-requires
 put-requires c κs = search needs
 
--- src/bytes.rt:38:5
 put-byte-requires : tie.Need-put-byte-requires
 put-byte-requires c κs = search needs
 
--- src/bytes.rt:32:1
 same-length : tie.Need-same-length
 same-length c = search needs
 
--- src/bytes.rt:32:1
 returns : tie.Need-returns
 unfolding field
 returns c =

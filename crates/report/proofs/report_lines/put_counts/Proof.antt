@@ -1,41 +1,34 @@
+-- `put_counts` meets its contract: its six fields are written in order. Assumes nothing.
+use borrow.Author.Needs.{needs}
 use Rattle.text.specs.Output.{countsLine}
 use Rattle.report.proofs.Buffer.{writes-more}
-use borrow.Author.Needs.{needs}
-use Rattle.report.proofs.report_lines.put_counts.Statement.{statement}
-use Rattle.report.proofs.report_lines.put_counts.Tie as tie
 use Rattle.report.proofs.report_lines.put_counts.Reads as reads
 use Rattle.report.proofs.report_lines.put_counts.Lts as lts
 use Rattle.report.proofs.bytes.put_field.Reads as put-field-reads
+use Rattle.report.proofs.report_lines.put_counts.Statement.{statement}
+use Rattle.report.proofs.report_lines.put_counts.Tie as tie
 
--- src/report_lines.rt:61:9
 put-field-requires : tie.Need-put-field-requires
 put-field-requires c κs = search needs
 
--- src/report_lines.rt:62:9
 put-field-requires-2 : tie.Need-put-field-requires-2
 put-field-requires-2 c κs = search needs
 
--- src/report_lines.rt:63:9
 put-field-requires-3 : tie.Need-put-field-requires-3
 put-field-requires-3 c κs = search needs
 
--- src/report_lines.rt:64:9
 put-field-requires-4 : tie.Need-put-field-requires-4
 put-field-requires-4 c κs = search needs
 
--- src/report_lines.rt:65:9
 put-field-requires-5 : tie.Need-put-field-requires-5
 put-field-requires-5 c κs = search needs
 
--- src/report_lines.rt:66:5
 put-field-requires-6 : tie.Need-put-field-requires-6
 put-field-requires-6 c κs = search needs
 
--- src/report_lines.rt:58:1
 same-length : tie.Need-same-length
 same-length c = search needs
 
--- src/report_lines.rt:58:1
 returns : tie.Need-returns
 unfolding countsLine
 returns c decisions rounds =

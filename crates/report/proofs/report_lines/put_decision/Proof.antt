@@ -1,46 +1,39 @@
+-- `put_decision` meets its contract: its parts are written in the order of the line's definition. Assumes nothing.
 use mathlib.Core.Path.{ap}
 use mathlib.Core.List.{[], _∷_}
 use Prim.Native.Nat.{ℕ}
+use borrow.Author.Needs.{needs}
 use Rattle.text.specs.Output.{decisionLine}
 use Rattle.report.proofs.Buffer.{writes-same, writes-more}
-use borrow.Author.Needs.{needs}
-use Rattle.report.proofs.report_lines.put_decision.Statement.{statement}
-use Rattle.report.proofs.report_lines.put_decision.Tie as tie
 use Rattle.report.proofs.report_lines.put_decision.Reads as reads
 use Rattle.report.proofs.report_lines.put_decision.Lts as lts
 use Rattle.report.proofs.bytes.put_byte.Reads as put-byte-reads
 use Rattle.report.proofs.bytes.put_field.Reads as put-field-reads
 use Rattle.report.proofs.report_lines.decision_letter.Reads as decision-letter-reads
+use Rattle.report.proofs.report_lines.put_decision.Statement.{statement}
+use Rattle.report.proofs.report_lines.put_decision.Tie as tie
 
--- src/report_lines.rt:35:37
 add-put-field : tie.Need-add-put-field
 add-put-field c = search needs
 
--- src/report_lines.rt:35:9
 put-field-requires : tie.Need-put-field-requires
 put-field-requires c κs = search needs
 
--- src/report_lines.rt:36:41
 decision-letter-requires : tie.Need-decision-letter-requires
 decision-letter-requires c κs = search needs
 
--- src/report_lines.rt:36:9
 put-byte-requires : tie.Need-put-byte-requires
 put-byte-requires c κs = search needs
 
--- src/report_lines.rt:37:9
 put-byte-requires-2 : tie.Need-put-byte-requires-2
 put-byte-requires-2 c κs = search needs
 
--- src/report_lines.rt:38:5
 put-field-requires-2 : tie.Need-put-field-requires-2
 put-field-requires-2 c κs = search needs
 
--- src/report_lines.rt:31:1
 same-length : tie.Need-same-length
 same-length c = search needs
 
--- src/report_lines.rt:31:1
 returns : tie.Need-returns
 unfolding decisionLine
 returns c =

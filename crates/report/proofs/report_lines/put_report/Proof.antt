@@ -1,43 +1,36 @@
+-- `put_report` meets its contract: headings and lines are written in order. Assumes nothing.
+use borrow.Author.Needs.{needs}
 use Rattle.text.specs.Output.{reportText}
 use Rattle.report.proofs.Buffer.{writes-more}
-use borrow.Author.Needs.{needs}
-use Rattle.report.proofs.report_lines.put_report.Statement.{statement}
-use Rattle.report.proofs.report_lines.put_report.Tie as tie
 use Rattle.report.proofs.report_lines.put_report.Reads as reads
 use Rattle.report.proofs.report_lines.put_report.Lts as lts
 use Rattle.report.proofs.bytes.put.Reads as put-reads
 use Rattle.report.proofs.report_lines.put_counts.Reads as put-counts-reads
 use Rattle.report.proofs.report_lines.put_decisions.Reads as put-decisions-reads
+use Rattle.report.proofs.report_lines.put_report.Statement.{statement}
+use Rattle.report.proofs.report_lines.put_report.Tie as tie
 
--- src/report_lines.rt:81:34
 slice-aggregate-put : tie.Need-slice-aggregate-put
 slice-aggregate-put c = search needs
 
--- src/report_lines.rt:81:9
 put-requires : tie.Need-put-requires
 put-requires c κs = search needs
 
--- src/report_lines.rt:82:9
 put-counts-requires : tie.Need-put-counts-requires
 put-counts-requires c κs = search needs
 
--- src/report_lines.rt:83:37
 slice-aggregate-put-2 : tie.Need-slice-aggregate-put-2
 slice-aggregate-put-2 c = search needs
 
--- src/report_lines.rt:83:9
 put-requires-2 : tie.Need-put-requires-2
 put-requires-2 c κs = search needs
 
--- src/report_lines.rt:84:5
 put-decisions-requires : tie.Need-put-decisions-requires
 put-decisions-requires c κs = search needs
 
--- src/report_lines.rt:70:1
 same-length : tie.Need-same-length
 same-length c = search needs
 
--- src/report_lines.rt:70:1
 returns : tie.Need-returns
 unfolding reportText
 returns c =

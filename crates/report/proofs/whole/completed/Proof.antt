@@ -1,6 +1,9 @@
+-- `completed` meets its contract: an accepted schedule is not refused, so the simulator gives the counts and tables of its report, and these are written
+-- into a buffer that is long enough. Assumes nothing.
 use mathlib.Core.Path.{_≡_, sym, ap, _∙_, subst}
 use Prim.Native.Nat.{ℕ, _^_, _≤_, _<_}
 use native.Mathlib.Omega.{arith}
+use borrow.Author.Needs.{needs}
 use lib.ListN.{length, getD}
 use Rattle.laws.specs.Answer.{accepted}
 use Rattle.laws.proofs.Answer.{not-accepted}
@@ -15,35 +18,27 @@ use Rattle.report.specs.Bytes.{AllDecisions}
 use Rattle.report.proofs.Buffer.{written-output}
 use Rattle.report.proofs.Lengths.{report-short}
 use Rattle.report.proofs.Given.{print-given, counts-given, table-given, n-small, decisions-long, rounds-long, all-decisions}
-use borrow.Author.Needs.{needs}
 use Rattle.report.proofs.whole.completed.Statement.{statement}
 use Rattle.report.proofs.whole.completed.Tie as tie
 
--- src/whole.rt:49:21
 blank-output-requires : tie.Need-blank-output-requires
 blank-output-requires c κs = search needs
 
--- src/whole.rt:50:9
 simulate-requires : tie.Need-simulate-requires
 simulate-requires c κs = search needs
 
--- src/whole.rt:51:30
 enum-known-run : tie.Need-enum-known-run
 enum-known-run c = search needs
 
--- src/whole.rt:53:20
 enum-told : tie.Need-enum-told
 enum-told c = search needs
 
--- src/whole.rt:52:9
 same-length : tie.Need-same-length
 same-length c = search needs
 
--- src/whole.rt:52:9
 same-length-2 : tie.Need-same-length-2
 same-length-2 c = search needs
 
--- src/whole.rt:52:9
 -- the schedule that is run
 abbrev given : tie.After-simulate → Schedule
 given c =
@@ -64,11 +59,9 @@ timed c = c .simulate .ensures .1 .1 .0 ∙ table-given largest (given c) _ _ (c
 returns : tie.Need-returns
 returns c = absurd (not-accepted (sym (ap simulatedIs (c .enum-told .given .1)) ∙ counted (c .before .before .before .before .before .before)))
 
--- src/whole.rt:57:29
 slice-aggregate-put-report : tie.Need-slice-aggregate-put-report
 slice-aggregate-put-report c = search needs
 
--- src/whole.rt:57:9
 put-report-requires : tie.Need-put-report-requires
 put-report-requires c κs =
     let d = c .before .before .before .before .before .before .before .before .before .before in
@@ -79,15 +72,12 @@ put-report-requires c κs =
     let rounds : length (d .simulate .last .1 .1 .1 .1 .1 .1 .0) ≡ s .n = ap length (timed d) ∙ rounds-long s largest _ pre in
     ((omega arith, omega arith), subst AllDecisions (sym (decided d)) (all-decisions s largest _ pre))
 
--- src/whole.rt:37:1
 same-length-3 : tie.Need-same-length-3
 same-length-3 c = search needs
 
--- src/whole.rt:37:1
 same-length-4 : tie.Need-same-length-4
 same-length-4 c = search needs
 
--- src/whole.rt:37:1
 -- the counts are numbers of 64 bits
 of-64-bits : (c : tie.After-known-told) → let k = c .before .run .given .0 .0 in (k .f < 2 ^ 64) × (k .first < 2 ^ 64) × (k .last < 2 ^ 64) × (k .messages < 2 ^ 64)
 of-64-bits c = (search needs, search needs, search needs, search needs)

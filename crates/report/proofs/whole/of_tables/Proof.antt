@@ -1,63 +1,51 @@
+-- `of_tables` meets its contract: the parts that it lends are n long. Assumes nothing.
 use mathlib.Core.Path.{sym, ap, _∙_}
+use borrow.Author.Needs.{needs}
 use lib.ListN.{take}
 use lib.Seq.{length-take-le}
 use Rattle.member.specs.Opening.{largest}
 use Rattle.schedule.specs.Schedule.{scheduleOf}
 use Rattle.schedule.specs.Questions.{question}
 use Rattle.report.proofs.Texts.{answers-long}
-use borrow.Author.Needs.{needs}
 use Rattle.report.proofs.whole.of_tables.Statement.{statement}
 use Rattle.report.proofs.whole.of_tables.Tie as tie
 
--- src/whole.rt:77:25
 blank-bytes-requires : tie.Need-blank-bytes-requires
 blank-bytes-requires c κs = search needs
 
--- src/whole.rt:78:22
 blank-bytes-requires-2 : tie.Need-blank-bytes-requires-2
 blank-bytes-requires-2 c κs = search needs
 
--- src/whole.rt:82:9
 array-share-prefix-votes : tie.Need-array-share-prefix-votes
 array-share-prefix-votes c = search needs
 
--- src/whole.rt:82:9
 slice-aggregate-completed : tie.Need-slice-aggregate-completed
 slice-aggregate-completed c = let a = c .before .before .before .args in sym (length-take-le (a .n) (a .t3) (search needs))
 
--- src/whole.rt:83:9
 array-share-prefix-crashes : tie.Need-array-share-prefix-crashes
 array-share-prefix-crashes c = search needs
 
--- src/whole.rt:83:9
 slice-aggregate-completed-2 : tie.Need-slice-aggregate-completed-2
 slice-aggregate-completed-2 c = let a = c .before .before .before .before .args in sym (length-take-le (a .n) (a .t4) (search needs))
 
--- src/whole.rt:84:9
 array-share-prefix-reaches : tie.Need-array-share-prefix-reaches
 array-share-prefix-reaches c = search needs
 
--- src/whole.rt:84:9
 slice-aggregate-completed-3 : tie.Need-slice-aggregate-completed-3
 slice-aggregate-completed-3 c = let a = c .before .before .before .before .before .args in sym (length-take-le (a .n) (a .t5) (search needs))
 
--- src/whole.rt:85:9
 array-borrow-prefix-decisions : tie.Need-array-borrow-prefix-decisions
 array-borrow-prefix-decisions c = search needs
 
--- src/whole.rt:85:9
 slice-aggregate-completed-4 : tie.Need-slice-aggregate-completed-4
 slice-aggregate-completed-4 c = sym (length-take-le (c .before .before .before .before .before .before .args .n) (c .before .before .before .before .before .blank-bytes .result) (search needs))
 
--- src/whole.rt:86:9
 array-borrow-prefix-rounds : tie.Need-array-borrow-prefix-rounds
 array-borrow-prefix-rounds c = search needs
 
--- src/whole.rt:86:9
 slice-aggregate-completed-5 : tie.Need-slice-aggregate-completed-5
 slice-aggregate-completed-5 c = sym (length-take-le (c .before .before .before .before .before .before .before .args .n) (c .before .before .before .before .before .blank-bytes2 .result) (search needs))
 
--- src/whole.rt:79:5
 completed-requires : tie.Need-completed-requires
 completed-requires c κs =
     let a = c .before .before .before .before .before .before .before .args in
@@ -65,7 +53,6 @@ completed-requires c κs =
     let long = answers-long (a .n) _ _ (length-take-le (a .n) (c .before .before .before .before .before .before .blank-bytes .result) (search needs)) (length-take-le (a .n) (c .before .before .before .before .before .blank-bytes2 .result) (search needs)) in
     ap (question s largest) long ∙ c .before .before .before .before .before .before .before .pre .1
 
--- src/whole.rt:66:1
 returns : tie.Need-returns
 returns c = search needs
 

@@ -1,31 +1,27 @@
+-- `refused` meets its contract: the three lines are written into a buffer that is long enough. Assumes nothing.
 use mathlib.Core.Path.{ap}
 use Prim.Native.Nat.{_≤_}
+use borrow.Author.Needs.{needs}
 use lib.ListN.{length}
 use Rattle.lines.specs.Lines.{lineOf}
 use Rattle.text.specs.Output.{refusalText}
 use Rattle.report.proofs.Buffer.{writes-same, written-output}
 use Rattle.report.proofs.Lengths.{refusal-short}
-use borrow.Author.Needs.{needs}
 use Rattle.report.proofs.whole.refused.Statement.{statement}
 use Rattle.report.proofs.whole.refused.Tie as tie
 
--- src/whole.rt:77:21
 blank-output-requires : tie.Need-blank-output-requires
 blank-output-requires c κs = search needs
 
--- src/whole.rt:78:30
 slice-aggregate-put-refusal : tie.Need-slice-aggregate-put-refusal
 slice-aggregate-put-refusal c = search needs
 
--- src/whole.rt:78:53
 line-requires : tie.Need-line-requires
 line-requires c κs = search needs
 
--- src/whole.rt:78:9
 put-refusal-requires : tie.Need-put-refusal-requires
 put-refusal-requires c κs = search needs
 
--- src/whole.rt:73:1
 returns : tie.Need-returns
 returns c =
     let a = c .before .before .before .before .before .before .args in
