@@ -13,7 +13,7 @@ use lib.Seq.{drop-append-add, getD-at, split-at, take-suc}
 use lib.Dec.{ltb, eqb}
 use Rattle.laws.proofs.Test.{true-or-false, and-left, and-right, cond-true, cond-false, within-is, within-low, within-high}
 use Rattle.laws.proofs.Counting.{split}
-use Rattle.fields.specs.Found.{Found, found, wrong, andThen}
+use Rattle.fields.specs.Found.{Found, found, wrong, thenRead}
 use Rattle.fields.specs.Decimal.{letter, isDigit, decimal}
 use Rattle.fields.specs.Fields.{startsWith, hasByte, digitAt, ended, numberField, digitField}
 use Rattle.fields.proofs.Digits.{one-digit, two-digits}
@@ -47,9 +47,9 @@ module _ {A : Type 0} (value : A) (rest : List ℕ) where
   found-unless false f e = (refl, e)
 
 -- the value that was read before, and the text that was left for what follows
-pub then-found : {A B : Type 0} (first : Found A) (next : A → List ℕ → Found B) (value : B) (rest : List ℕ) → andThen first next ≡ found value rest
+pub then-found : {A B : Type 0} (first : Found A) (next : A → List ℕ → Found B) (value : B) (rest : List ℕ) → thenRead first next ≡ found value rest
     → (a : A) × (left : List ℕ) × (first ≡ found a left) × (next a left ≡ found value rest)
-unfolding andThen
+unfolding thenRead
 then-found (found a left) next value rest e = (a, left, refl, e)
 then-found wrong next value rest e = absurd (not-found e)
 

@@ -8,6 +8,6 @@ pub data Found (A : Type 0) : Type 0 where
   wrong : Found A
 
 -- the form of what follows a value in the text after it
-unfoldable pub andThen : {A B : Type 0} → Found A → (A → List ℕ → Found B) → Found B
-andThen (found value rest) next = next value rest
-andThen wrong next = wrong
+unfoldable pub thenRead : {A B : Type 0} → Found A → (A → List ℕ → Found B) → Found B
+thenRead (found value rest) next = next value rest
+thenRead wrong next = wrong

@@ -11,7 +11,7 @@ use lib.ListN.{drop}
 use lib.Dec.{leb}
 use Rattle.laws.proofs.Test.{cond-true}
 use Rattle.lines.specs.Lines.{lf}
-use Rattle.fields.specs.Found.{Found, found, wrong, andThen}
+use Rattle.fields.specs.Found.{Found, found, wrong, thenRead}
 use Rattle.fields.specs.declared.Field.{Field}
 use Rattle.fields.specs.declared.Field.the-variants.{Value, NoValue}
 use Rattle.fields.specs.declared.Reach.{Reach}
@@ -41,44 +41,44 @@ reach-in-32 end text n l = cond-true (leb n 32) (reachField end text n) wrong (l
 
 module _ (text : List ℕ) where
   pub no-n : numberField space text ≡ wrong → none ≡ valueOf (sizesAt text)
-  unfolding sizesAt andThen
+  unfolding sizesAt thenRead
   no-n e = rw e
 
   module _ {n : ℕ} {rest : List ℕ} (first : numberField space text ≡ found n rest) where
     pub no-t : numberField lf rest ≡ wrong → none ≡ valueOf (sizesAt text)
-    unfolding sizesAt andThen
+    unfolding sizesAt thenRead
     no-t e = rw (first, e)
 
     pub both-sizes : {t : ℕ} {end : List ℕ} → numberField lf rest ≡ found t end → some (record { n = n; t = t }) ≡ valueOf (sizesAt text)
-    unfolding sizesAt andThen
+    unfolding sizesAt thenRead
     both-sizes e = rw (first, e)
 
   module _ (n i : ℕ) where
     pub no-id : numberField space text ≡ wrong → none ≡ valueOf (entryAt n i text)
-    unfolding entryAt andThen
+    unfolding entryAt thenRead
     no-id e = rw e
 
     module _ {id : ℕ} {after-id : List ℕ} (first : numberField space text ≡ found id after-id) where
       pub other-id : id ≢ i + 1 → none ≡ valueOf (entryAt n i text)
-      unfolding entryAt andThen
+      unfolding entryAt thenRead
       other-id h = rw (first, ne-eqb id (i + 1) h)
 
       module _ (own : id ≡ i + 1) where
         pub no-vote : digitField space after-id ≡ wrong → none ≡ valueOf (entryAt n i text)
-        unfolding entryAt andThen
+        unfolding entryAt thenRead
         no-vote e = rw (first, eq-eqb id (i + 1) own, e)
 
         module _ {vote : ℕ} {after-vote : List ℕ} (second : digitField space after-id ≡ found vote after-vote) where
           pub no-crash : numberField space after-vote ≡ wrong → none ≡ valueOf (entryAt n i text)
-          unfolding entryAt andThen
+          unfolding entryAt thenRead
           no-crash e = rw (first, eq-eqb id (i + 1) own, second, e)
 
           module _ {crash : ℕ} {after-crash : List ℕ} (third : numberField space after-vote ≡ found crash after-crash) where
             pub no-reach : reachField lf after-crash n ≡ wrong → none ≡ valueOf (entryAt n i text)
-            unfolding entryAt andThen
+            unfolding entryAt thenRead
             no-reach e = rw (first, eq-eqb id (i + 1) own, second, third, e)
 
             pub whole-entry : {reach : ℕ} {end : List ℕ} → reachField lf after-crash n ≡ found reach end
                 → some (record { vote = vote; crash = crash; reach = reach }) ≡ valueOf (entryAt n i text)
-            unfolding entryAt andThen
+            unfolding entryAt thenRead
             whole-entry e = rw (first, eq-eqb id (i + 1) own, second, third, e)

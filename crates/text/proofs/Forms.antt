@@ -9,7 +9,7 @@ use lib.Dec.{eqb}
 use Rattle.laws.specs.Test.{within}
 use Rattle.laws.proofs.Test.{cond-true}
 use Rattle.lines.specs.Lines.{lf}
-use Rattle.fields.specs.Found.{found, wrong, andThen}
+use Rattle.fields.specs.Found.{found, wrong, thenRead}
 use Rattle.fields.specs.Decimal.{decimal, isDigit}
 use Rattle.fields.specs.Fields.{space, numberField, digitField, reachField}
 use Rattle.fields.proofs.Written.{found-if, then-found, number-reads, number-written, digit-reads, digit-written}
@@ -23,7 +23,7 @@ unfolding isDigit within
 no-digits = (refl, refl)
 
 pub sizes-reads : (n t : ℕ) (rest : List ℕ) → n ≤ 99 → t ≤ 99 → sizesAt (sizesLine n t ++ rest) ≡ found (record { n = n; t = t }) rest
-unfolding sizesAt andThen
+unfolding sizesAt thenRead
 sizes-reads n t rest hn ht =
     rw (
       sizes-parts rest n t,
@@ -33,7 +33,7 @@ sizes-reads n t rest hn ht =
 
 pub entry-reads : (n i vote crash reach : ℕ) (rest : List ℕ) → i < 99 → vote ≤ 9 → crash ≤ 99 → reach < 2 ^ n
     → entryAt n i (processLine n i vote crash reach ++ rest) ≡ found (record { vote = vote; crash = crash; reach = reach }) rest
-unfolding entryAt andThen
+unfolding entryAt thenRead
 entry-reads n i vote crash reach rest hi hv hc hr =
     rw (process-parts rest n i vote crash reach, number-reads space (no-digits .0) (i + 1) _ (omega arith))
     (cond-true _ _ wrong (eq-eqb (i + 1) _ (omega arith))

@@ -4,7 +4,7 @@ use mathlib.Core.List.{List, [], _∷_}
 use mathlib.Core.Bool.{cond}
 use lib.Dec.{eqb}
 use Rattle.lines.specs.Lines.{lf}
-use Rattle.fields.specs.Found.{Found, found, wrong, andThen}
+use Rattle.fields.specs.Found.{Found, found, wrong, thenRead}
 use Rattle.fields.specs.Fields.{space, numberField, digitField, reachField}
 
 -- "line 1 `n t`", with its LF
@@ -23,8 +23,8 @@ pub record Sizes : Type 0 where
 -- "Line 2 has the values"
 unfoldable pub sizesAt : List ℕ → Found Sizes
 sizesAt text =
-    andThen (numberField space text) (λ n rest.
-    andThen (numberField lf rest) (λ t rest.
+    thenRead (numberField space text) (λ n rest.
+    thenRead (numberField lf rest) (λ t rest.
     found (record { n = n; t = t }) rest))
 
 -- the values of a process's line
@@ -37,10 +37,10 @@ pub record Entry : Type 0 where
 -- whose number is i + 1
 unfoldable pub entryAt : ℕ → ℕ → List ℕ → Found Entry
 entryAt n i text =
-    andThen (numberField space text) (λ id rest.
+    thenRead (numberField space text) (λ id rest.
     cond (eqb id (i + 1))
-    (andThen (digitField space rest) (λ vote rest.
-    andThen (numberField space rest) (λ crash rest.
-    andThen (reachField lf rest n) (λ reach rest.
+    (thenRead (digitField space rest) (λ vote rest.
+    thenRead (numberField space rest) (λ crash rest.
+    thenRead (reachField lf rest n) (λ reach rest.
     found (record { vote = vote; crash = crash; reach = reach }) rest))))
     wrong)

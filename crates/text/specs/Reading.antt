@@ -33,8 +33,8 @@ unfoldable pub onLine : ℕ → ℕ → Answer (Unit {0}) ℕ
 onLine k q = answer q tt k
 
 module _ (text : List ℕ) where
-  -- What is read: n and t on line 2, and the entry of the process at place i on line i + 4. Where a line is not of its form, zeros stand here; the questions then refuse
-  -- the text.
+  -- What is read: n and t on line 2, and the entry of the process at place i on line i + 4. Where a line is not of its form, zeros stand here; the
+  -- questions then refuse the text.
   abbrev pub sizesIn : Sizes
   sizesIn = valueOr (record { n = 0; t = 0 }) (sizesAt (afterLines 1 text))
 
