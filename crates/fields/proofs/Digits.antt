@@ -1,14 +1,15 @@
--- The digits of a number: which they are where there are one or two, how many there are, and that no letter of a number is an LF, since the letters start at byte 48.
--- Assumes nothing.
-use mathlib.Core.Path.{_≡_, refl, ap, _∙_}
+-- The digits of a number: which they are where there are one or two, how many there are, that no letter of a number is an LF, since the letters start at byte 48,
+-- and that what they are the digits of can be read back. Assumes nothing.
+use mathlib.Core.Path.{_≡_, refl, sym, ap, _∙_}
 use mathlib.Core.Logic.{inl, inr}
 use mathlib.Core.List.{List, [], _∷_, _++_, append-assoc}
-use Prim.Native.Nat.{ℕ, zero, suc, _+_, _*_, _/_, _%_, _^_, _≤_, _<_}
+use mathlib.Core.Bool.{cond}
+use Prim.Native.Nat.{ℕ, zero, suc, _+_, _-_, _*_, _/_, _%_, _^_, _≤_, _<_}
 use native.Mathlib.Nat.{pow-suc}
 use native.Mathlib.Omega.{arith}
-use borrow.Author.Tests.{lt-ltb, le-ltb}
+use borrow.Author.Tests.{eq-eqb, ne-eqb, lt-ltb, le-ltb}
 use lib.ListN.{length, length-append}
-use lib.Dec.{ltb}
+use lib.Dec.{ltb, eqb}
 use Rattle.laws.proofs.Test.{cond-true, cond-false}
 use Rattle.laws.proofs.Counting.{split}
 use Rattle.lines.specs.Lines.{afterLine}
@@ -75,3 +76,39 @@ places-on-line (suc steps) x rest =
 pub after-decimal : (x : ℕ) (rest : List ℕ) → afterLine (decimal x ++ rest) ≡ afterLine rest
 unfolding decimal
 after-decimal x rest = places-on-line x x rest
+
+-- Digits and the byte that ends them, which comes before all letters of digits: there is one number and one rest of the text that they can be of.
+module _ (end : ℕ) (low : end < letter 0) where
+  -- the number whose digits are those of v and then those of the text up to its end, and the text after that end
+  abbrev readOn : ℕ → List ℕ → ℕ × List ℕ
+  readOn v [] = (v, [])
+  readOn v (b ∷ text) = cond (eqb b end) (v, text) (readOn (10 * v + (b - letter 0)) text)
+
+  read-letter : (v d x : ℕ) (rest : List ℕ) → 10 * v + d ≡ x → readOn v (letter d ∷ rest) ≡ readOn x rest
+  read-letter v d x rest e =
+      cond-false (eqb (letter d) end) (v, rest) (readOn (10 * v + (letter d - letter 0)) rest) (ne-eqb (letter d) end (λ same. omega arith))
+      ∙ ap (λ (w : ℕ). readOn w rest) (omega arith)
+
+  read-places : (steps x : ℕ) (rest : List ℕ) → x ≤ steps → readOn 0 (decimalIn steps x ++ rest) ≡ readOn x rest
+  unfolding decimalIn
+  read-places zero x rest h = read-letter 0 x x rest (omega arith)
+  read-places (suc steps) x rest h =
+      elim (split 10 x) [
+        | inl a ↦
+            rw (le-ltb x 10 a)
+            (ap (readOn 0) (append-assoc (decimalIn steps (x / 10)) (letter (x % 10) ∷ []) rest)
+            ∙ read-places steps (x / 10) (letter (x % 10) ∷ rest) (omega arith)
+            ∙ read-letter (x / 10) (x % 10) x rest (omega arith))
+        | inr a ↦ rw (lt-ltb x 10 a) (read-letter 0 x x rest (omega arith))
+      ]
+
+  read-decimal : (x : ℕ) (rest : List ℕ) → readOn 0 (decimal x ++ (end ∷ rest)) ≡ (x, rest)
+  unfolding decimal
+  read-decimal x rest =
+      read-places x x (end ∷ rest) (omega arith)
+      ∙ cond-true (eqb end end) (x, rest) (readOn (10 * x + (end - letter 0)) rest) (eq-eqb end end refl)
+
+  pub same-number : (x y : ℕ) (rest others : List ℕ) → decimal x ++ (end ∷ rest) ≡ decimal y ++ (end ∷ others) → (x ≡ y) × (rest ≡ others)
+  same-number x y rest others e =
+      let both = sym (read-decimal x rest) ∙ ap (readOn 0) e ∙ read-decimal y others in
+      (ap (λ (p : ℕ × List ℕ). p .0) both, ap (λ (p : ℕ × List ℕ). p .1) both)

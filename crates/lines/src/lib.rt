@@ -1,10 +1,10 @@
 // The lines of a text (document 01, "Schedule text and report"), as places in the caller's bytes
 // and as parts of them.
 //
-// `next_line` tells where the next line starts, `from` is the text from a place on, and `line` is
-// line k without its LF. Each of the three takes any bytes and any number, answers what the
-// definitions in specs/Lines.antt give, and has no `requires`; nothing is copied. The laws that a
-// reader of lines needs of them are in proofs/Parts.antt.
+// `next_line` tells where the next line starts, `line_start` where the text after the first k lines does,
+// `from` is the text from a place on, and `line` is line k without its LF. Each takes any bytes and any
+// number, answers what the definitions in specs/Lines.antt give, and has no `requires`; nothing is
+// copied. The laws that a reader of lines needs of them are in proofs/Parts.antt and Endings.antt.
 ghost use mathlib.Core.Path.{_≡_};
 ghost use Prim.Native.Nat.{_+_, _-_, _≤_};
 ghost use lib.ListN.{length, drop};

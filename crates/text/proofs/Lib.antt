@@ -5,4 +5,5 @@ pub mod Forms
 pub mod ReadBack
 pub mod Inverse
 pub mod Sizes
+pub mod Says
 pub mod Theorem

@@ -1,15 +1,29 @@
 -- All that is promised of reading and of what is printed, whatever the largest n and the longest text that are accepted. Assumes nothing.
+use mathlib.Core.Path.{_≡_, sym, ap, _∙_}
+use mathlib.Core.List.{List}
 use mathlib.Core.Bool.{true}
 use Prim.Native.Nat.{ℕ, _≤_}
 use native.Mathlib.Omega.{arith}
+use Rattle.laws.specs.Answer.{accepted}
 use Rattle.member.specs.Opening.{largest}
+use Rattle.schedule.specs.Schedule.{Schedule}
 use Rattle.schedule.proofs.Accepted.{question-accepted}
-use Rattle.text.specs.Reading.{longest}
-use Rattle.text.specs.Facts.{TextPromises, AllReadBack}
+use Rattle.run.specs.Protocol.{fcwfa}
+use Rattle.run.specs.Report.{Report, report}
+use Rattle.text.specs.Reading.{longest, textAnswer}
+use Rattle.text.specs.Output.{reportText, printed, outputOf}
+use Rattle.text.specs.Facts.{SaysTheSame, TextPromises, AllReadBack}
 use Rattle.text.proofs.Accepted.{accepted-schedule, line-bound, line-short, demand-3}
 use Rattle.text.proofs.Inverse.{written}
 use Rattle.text.proofs.ReadBack.{reads-back}
 use Rattle.text.proofs.Sizes.{text-short}
+use Rattle.text.proofs.Says.{one-reading}
+
+-- whatever report is read in what is printed for an accepted text says the same as that of the run of its schedule
+printed-says : (limit most : ℕ) (text : List ℕ) (s : Schedule) → textAnswer text limit most ≡ accepted s
+    → (m u : ℕ) (b : Report) → outputOf text limit most ≡ reportText m u b → SaysTheSame (s .n) (s .t) (report fcwfa s) m u b
+unfolding outputOf
+printed-says limit most text s e m u b h = one-reading (s .n) (s .t) (report fcwfa s) m u b (sym (ap (printed text) e) ∙ h)
 
 pub accepted-texts : (limit most : ℕ) → limit ≤ 99 → TextPromises limit most
 accepted-texts limit most high = record {
@@ -19,6 +33,7 @@ accepted-texts limit most high = record {
   line-bound = λ text. line-bound text limit most;
   line-short = λ text. line-short text limit most;
   demand-3 = λ text s. demand-3 text limit most s;
+  says = λ text s. printed-says limit most text s;
 }
 
 pub all-read-back : AllReadBack

@@ -1,16 +1,17 @@
 -- What holds of reading and of what is printed. Proved in proofs/Theorem.antt:
 -- `accepted-texts : (limit most : ℕ) → limit ≤ 99 → TextPromises limit most`. Assumes nothing.
-use Prim.Native.Nat.{ℕ, _+_, _≤_}
+use Prim.Native.Nat.{ℕ, _+_, _≤_, _<_}
 use mathlib.Core.Path.{_≡_}
 use mathlib.Core.List.{List}
 use mathlib.Core.Bool.{true}
-use lib.ListN.{length}
+use lib.ListN.{length, getD}
 use Rattle.laws.specs.Answer.{accepted, refused}
 use Rattle.lines.specs.Lines.{lineOf}
 use Rattle.member.specs.Opening.{largest}
 use Rattle.schedule.specs.Schedule.{Schedule}
 use Rattle.schedule.specs.Questions.{question}
-use Rattle.run.specs.Report.{Report}
+use Rattle.run.specs.Protocol.{fcwfa}
+use Rattle.run.specs.Report.{Report, report}
 use Rattle.run.specs.Given.{GivenDemand3}
 use Rattle.text.specs.Written.{textOf}
 use Rattle.text.specs.Reading.{longest, sizesIn, textAnswer}
@@ -21,6 +22,19 @@ pub record PrintsDemand3 (s : Schedule) (bytes : List ℕ) : Type 0 where
   pub given : Report
   pub prints : bytes ≡ reportText (s .n) (s .t) given
   pub demand-3 : GivenDemand3 s given
+
+-- Two reports that are printed alike say the same: the sizes, the counts, and the decision and the round of each process. So what is printed has one
+-- reading. Proved in proofs/Says.antt:
+-- `one-reading : (n t : ℕ) (a : Report) (m u : ℕ) (b : Report) → reportText n t a ≡ reportText m u b → SaysTheSame n t a m u b`.
+pub record SaysTheSame (n t : ℕ) (a : Report) (m u : ℕ) (b : Report) : Type 0 where
+  pub same-n : n ≡ m
+  pub same-t : t ≡ u
+  pub f : a .f ≡ b .f
+  pub first : a .first ≡ b .first
+  pub last : a .last ≡ b .last
+  pub messages : a .messages ≡ b .messages
+  pub decisions : (i : ℕ) → i < n → getD (a .decisions) i 2 ≡ getD (b .decisions) i 2
+  pub rounds : (i : ℕ) → i < n → getD (a .rounds) i 0 ≡ getD (b .rounds) i 0
 
 -- `limit` is the largest n that is accepted, `most` how many bytes a text may have.
 pub record TextPromises (limit most : ℕ) : Type 0 where
@@ -34,6 +48,9 @@ pub record TextPromises (limit most : ℕ) : Type 0 where
   pub line-short : (text : List ℕ) (number k : ℕ) → textAnswer text limit most ≡ refused number k → length (lineOf k text) ≤ most
   -- demand 3 of what is printed for an accepted text
   pub demand-3 : (text : List ℕ) (s : Schedule) → textAnswer text limit most ≡ accepted s → PrintsDemand3 s (outputOf text limit most)
+  -- and whatever report is read in what is printed for it, it says the same as that of the run of its schedule
+  pub says : (text : List ℕ) (s : Schedule) → textAnswer text limit most ≡ accepted s
+      → (m u : ℕ) (b : Report) → outputOf text limit most ≡ reportText m u b → SaysTheSame (s .n) (s .t) (report fcwfa s) m u b
 
 -- The text of an accepted schedule of at most 32 processes has at most 2,048 bytes, so it is read back. Proved in proofs/Theorem.antt:
 -- `all-read-back : AllReadBack`.

@@ -1,0 +1,132 @@
+-- What is printed has one reading: the byte that ends a field is no digit, so that the field's number and what follows it are known, and field by field so are
+-- the line of counts and each line of a decision; the letter of a decision is that of no other. Assumes nothing.
+use mathlib.Core.Path.{_≡_, sym, ap, _∙_}
+use mathlib.Core.Logic.{inl, inr}
+use mathlib.Core.List.{List, [], _∷_, _++_, append-assoc, append-nil}
+use mathlib.Core.Bool.{false}
+use Prim.Native.Nat.{ℕ, zero, suc, _+_, _<_}
+use native.Mathlib.Omega.{arith}
+use borrow.Author.Tests.{eqb-true}
+use lib.ListN.{getD}
+use lib.Dec.{eqb}
+use Rattle.laws.specs.Below.{fold}
+use Rattle.laws.proofs.Test.{true-or-false, cond-false}
+use Rattle.laws.proofs.Counting.{below-or-top}
+use Rattle.lines.specs.Lines.{lf}
+use Rattle.fields.specs.Decimal.{letter, decimal}
+use Rattle.fields.specs.Fields.{space}
+use Rattle.fields.proofs.Digits.{same-number}
+use Rattle.run.specs.Report.{Report}
+use Rattle.text.specs.Written.{field, eachLine}
+use Rattle.text.specs.Output.{countsHeading, decisionsHeading, decisionLetter, countsLine, decisionLine, decisionLines, reportText}
+use Rattle.text.specs.Facts.{SaysTheSame}
+
+-- The letter of a decision, `-` for none, which comes before all digits, or the decision's digit, is that of no other decision.
+none-low : decisionLetter 2 < letter 0
+unfolding decisionLetter
+none-low = omega arith
+
+some-letter : (decision : ℕ) → eqb decision 2 ≡ false → decisionLetter decision ≡ letter decision
+unfolding decisionLetter
+some-letter decision some = cond-false (eqb decision 2) _ (letter decision) some
+
+same-letter : (a b : ℕ) → decisionLetter a ≡ decisionLetter b → a ≡ b
+same-letter a b e =
+    let low = none-low in
+    elim (true-or-false (eqb a 2)) [
+      | inl x ↦
+          let none : a ≡ 2 = eqb-true a 2 x in
+          let dash : decisionLetter a ≡ decisionLetter 2 = ap decisionLetter none in
+          elim (true-or-false (eqb b 2)) [
+            | inl y ↦ none ∙ sym (eqb-true b 2 y)
+            | inr y ↦ let digit = some-letter b y in absurd (omega arith)
+          ]
+      | inr x ↦
+          let digit = some-letter a x in
+          elim (true-or-false (eqb b 2)) [
+            | inl y ↦
+                let dash : decisionLetter b ≡ decisionLetter 2 = ap decisionLetter (eqb-true b 2 y) in
+                absurd (omega arith)
+            | inr y ↦ let other = some-letter b y in omega arith
+          ]
+    ]
+
+-- What follows the same letters.
+same-rest : (letters rest others : List ℕ) → letters ++ rest ≡ letters ++ others → rest ≡ others
+same-rest [] rest others e = e
+same-rest (b ∷ letters) rest others e = same-rest letters rest others (cc e)
+
+-- A field, with what follows it.
+module _ (end : ℕ) (low : end < letter 0) where
+  same-field : (x y : ℕ) (rest others : List ℕ) → field x end ++ rest ≡ field y end ++ others → (x ≡ y) × (rest ≡ others)
+  unfolding field
+  same-field x y rest others e =
+      same-number end low x y rest others (sym (append-assoc (decimal x) (end ∷ []) rest) ∙ e ∙ append-assoc (decimal y) (end ∷ []) others)
+
+-- The line of a decision, with what follows it.
+decision-parts : (i decision round : ℕ) (rest : List ℕ)
+    → decisionLine i decision round ++ rest ≡ field (i + 1) space ++ (decisionLetter decision ∷ space ∷ (field round lf ++ rest))
+unfolding decisionLine
+decision-parts i decision round rest = simp append-assoc
+
+same-decision : (i d r e q : ℕ) (rest others : List ℕ) → decisionLine i d r ++ rest ≡ decisionLine i e q ++ others → ((d ≡ e) × (r ≡ q)) × (rest ≡ others)
+same-decision i d r e q rest others h =
+    let id = same-field space (omega arith) (i + 1) (i + 1) _ _ (sym (decision-parts i d r rest) ∙ h ∙ decision-parts i e q others) .1 in
+    let letters : decisionLetter d ≡ decisionLetter e = cc id in
+    let round = same-field lf (omega arith) r q rest others (cc id) in
+    ((same-letter d e letters, round .0), round .1)
+
+-- Lines one after the other, where line i of both with what follows it gives P i and that what follows is the same.
+module _ (line other : ℕ → List ℕ) (P : ℕ → Type 0) (one : (i : ℕ) (rest others : List ℕ) → line i ++ rest ≡ other i ++ others → P i × (rest ≡ others)) where
+  same-each : (n : ℕ) (rest others : List ℕ) → eachLine n line ++ rest ≡ eachLine n other ++ others → ((i : ℕ) → i < n → P i) × (rest ≡ others)
+  unfolding eachLine fold
+  same-each zero rest others e = (λ i l. absurd (omega arith), e)
+  same-each (suc n) rest others e =
+      let both = sym (append-assoc (eachLine n line) (line n) rest) ∙ e ∙ append-assoc (eachLine n other) (other n) others in
+      let before = same-each n (line n ++ rest) (other n ++ others) both in
+      let top = one n rest others (before .1) in
+      (below-or-top P n (before .0) (top .0), top .1)
+
+same-decisions : (n : ℕ) (a b : Report) → decisionLines n (a .decisions) (a .rounds) ≡ decisionLines n (b .decisions) (b .rounds)
+    → (i : ℕ) → i < n → (getD (a .decisions) i 2 ≡ getD (b .decisions) i 2) × (getD (a .rounds) i 0 ≡ getD (b .rounds) i 0)
+unfolding decisionLines
+same-decisions n a b e =
+    same-each _ _ (λ i. (getD (a .decisions) i 2 ≡ getD (b .decisions) i 2) × (getD (a .rounds) i 0 ≡ getD (b .rounds) i 0))
+    (λ i. same-decision i (getD (a .decisions) i 2) (getD (a .rounds) i 0) (getD (b .decisions) i 2) (getD (b .rounds) i 0))
+    n [] [] (append-nil _ ∙ e ∙ sym (append-nil _)) .0
+
+-- The line of counts, with what follows it.
+counts-parts : (n t : ℕ) (a : Report) (rest : List ℕ)
+    → countsLine n t a ++ rest
+    ≡ field n space
+    ++ (field t space
+    ++ (field (a .f) space
+    ++ (field (a .first) space
+    ++ (field (a .last) space
+    ++ (field (a .messages) lf
+    ++ rest)))))
+unfolding countsLine
+counts-parts n t a rest = simp append-assoc
+
+pub one-reading : (n t : ℕ) (a : Report) (m u : ℕ) (b : Report) → reportText n t a ≡ reportText m u b → SaysTheSame n t a m u b
+unfolding reportText
+one-reading n t a m u b e =
+    let counts = same-rest countsHeading _ _ e in
+    let n-read = same-field space (omega arith) n m _ _ (sym (counts-parts n t a _) ∙ counts ∙ counts-parts m u b _) in
+    let t-read = same-field space (omega arith) t u _ _ (n-read .1) in
+    let f-read = same-field space (omega arith) (a .f) (b .f) _ _ (t-read .1) in
+    let first-read = same-field space (omega arith) (a .first) (b .first) _ _ (f-read .1) in
+    let last-read = same-field space (omega arith) (a .last) (b .last) _ _ (first-read .1) in
+    let messages-read = same-field lf (omega arith) (a .messages) (b .messages) _ _ (last-read .1) in
+    let lines = same-rest decisionsHeading _ _ (messages-read .1) in
+    let each = same-decisions n a b (lines ∙ ap (λ (k : ℕ). decisionLines k (b .decisions) (b .rounds)) (sym (n-read .0))) in
+    record {
+      same-n = n-read .0;
+      same-t = t-read .0;
+      f = f-read .0;
+      first = first-read .0;
+      last = last-read .0;
+      messages = messages-read .0;
+      decisions = λ i l. each i l .0;
+      rounds = λ i l. each i l .1;
+    }
