@@ -9,6 +9,8 @@ use crate::Lines;
 use crate::parts::read_processes;
 use crate::parts::read_tail;
 use crate::tables;
+use laws::zero_bytes;
+use laws::zero_words;
 
 // Asks the questions after line 3, and fills the tables if each is answered by yes. Number 7 is known
 // only after the last line, so the lines are read into arrays of the function's own.
@@ -27,9 +29,9 @@ pub fn read_rest(
     ensures crashes_read { λ r. ⌜ now (crashes .exit) ≡ givenOr (restQuestions (now (text .entry))) (filled (scheduleIn (now (text .entry)) .crashes) (now (crashes .entry))) (now (crashes .entry)) ⌝ }
     ensures reaches_read { λ r. ⌜ now (reaches .exit) ≡ givenOr (restQuestions (now (text .entry))) (filled (scheduleIn (now (text .entry)) .reaches) (now (reaches .entry))) (now (reaches .entry)) ⌝ }
 {
-    let mut own_votes = tables::blank_bytes();
-    let mut own_crashes = tables::blank_bytes();
-    let mut own_reaches = tables::blank_words();
+    let mut own_votes = zero_bytes();
+    let mut own_crashes = zero_bytes();
+    let mut own_reaches = zero_words();
     let lines = read_processes(
         text,
         n,

@@ -22,16 +22,6 @@ pub fn are_of_size(votes: usize, crashes: usize, reaches: usize) -> bool
     reaches == SIZE
 }
 
-// A table of the reader's own, of bytes.
-pub fn blank_bytes() -> [u8; 32] {
-    [0u8; 32]
-}
-
-// A table of the reader's own, of reaches.
-pub fn blank_words() -> [u32; 32] {
-    [0u32; 32]
-}
-
 // Fills the first n entries of the tables with what was read, and leaves the others.
 pub fn fill(
     n: usize,

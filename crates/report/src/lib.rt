@@ -12,6 +12,8 @@ ghost use Rattle.member.specs.Opening.{largest};
 ghost use Rattle.text.specs.Reading.{longest};
 ghost use Rattle.text.specs.Output.{outputOf};
 ghost use Rattle.report.specs.Answers.{outputIs, OutputKeepsDemand3};
+use laws::zero_bytes;
+use laws::zero_words;
 use reader::Reading;
 
 // The output's bytes with zeros after them, and how many they are. The longest output is the refusal
@@ -27,9 +29,9 @@ pub fn printed(text: &[u8]) -> Output
     ensures fits { λ r. ⌜ Counts (r .length) (r .bytes) ⌝ }
     ensures demand_3 { λ r. ⌜ OutputKeepsDemand3 (now (text .entry)) r ⌝ }
 {
-    let mut votes = whole::blank_bytes();
-    let mut crashes = whole::blank_bytes();
-    let mut reaches = whole::blank_words();
+    let mut votes = zero_bytes();
+    let mut crashes = zero_bytes();
+    let mut reaches = zero_words();
     let reading = reader::read(text, &mut votes, &mut crashes, &mut reaches);
     match reading {
         Reading::Read(n, t) => whole::of_tables(n, t, votes, crashes, reaches),

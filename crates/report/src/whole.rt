@@ -15,17 +15,8 @@ ghost use Rattle.report.specs.Answers.{outputIs};
 use crate::Output;
 use crate::report_lines::put_refusal;
 use crate::report_lines::put_report;
+use laws::zero_bytes;
 use simulator::Simulated;
-
-// A table of 32 bytes.
-pub fn blank_bytes() -> [u8; 32] {
-    [0u8; 32]
-}
-
-// A table of 32 reaches.
-pub fn blank_words() -> [u32; 32] {
-    [0u32; 32]
-}
 
 // A buffer for the output.
 fn blank_output() -> [u8; 2112]
@@ -76,8 +67,8 @@ pub fn of_tables(
     ensures output { λ r. ⌜ r ≡ outputIs (reportText n t (report fcwfa (scheduleOf n t (take n votes) (take n crashes) (take n reaches)))) ⌝ }
     ensures fits { λ r. ⌜ r .length ≤ 2112 ⌝ }
 {
-    let mut decisions = blank_bytes();
-    let mut rounds = blank_bytes();
+    let mut decisions = zero_bytes();
+    let mut rounds = zero_bytes();
     completed(
         n,
         t,

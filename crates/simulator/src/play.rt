@@ -19,8 +19,8 @@ use crate::members::start_all;
 use crate::members::state_heard;
 use crate::rows::all_receivers;
 use crate::rows::empty_grid;
-use crate::rows::empty_row;
 use crate::rows::fill_grid;
+use laws::zero_bytes;
 use member::Member;
 
 // The codes that the members say.
@@ -29,7 +29,7 @@ fn codes_said(n: usize, members: [Member; 32]) -> [u8; 32]
     requires speak { ⌜ AllSpeak n members ⌝ }
     ensures said { λ r. ⌜ Filled 0 32 n r (λ i. says (stateAt fcwfa members i)) ⌝ }
 {
-    let mut codes = empty_row();
+    let mut codes = zero_bytes();
     let mut i: usize = 0;
     while i < n {
         let m = members[i];

@@ -5,25 +5,14 @@ ghost use Prim.Native.Nat.{ℕ, _≤_, _<_};
 ghost use lib.ListN.{length, getD};
 ghost use Rattle.laws.specs.Filled.{Each, Filled};
 ghost use Rattle.delivery.specs.Receivers.{receiversOf, heardOf};
-
-// A row with nothing in it.
-pub fn empty_row() -> [u8; 32]
-    ensures long { λ r. ⌜ length r ≡ 32 ⌝ }
-{
-    [0u8; 32]
-}
+use laws::zero_bytes;
+use laws::zero_words;
 
 pub fn empty_grid() -> [[u8; 32]; 32]
     ensures long { λ r. ⌜ length r ≡ 32 ⌝ }
 {
-    let row = empty_row();
+    let row = zero_bytes();
     [row; 32]
-}
-
-fn no_receivers() -> [u32; 32]
-    ensures long { λ r. ⌜ length r ≡ 32 ⌝ }
-{
-    [0u32; 32]
 }
 
 // The receivers of what each process says in the round.
@@ -31,7 +20,7 @@ pub fn all_receivers(n: usize, round: u8, crashes: &[u8], reaches: &[u32]) -> [u
     requires size { ⌜ (n ≤ 32) × (length (now crashes) ≡ n) × (length (now reaches) ≡ n) ⌝ }
     ensures sets { λ r. ⌜ Filled 0 32 n r (λ j. receiversOf 32 round (getD (now (crashes .entry)) j 0) (getD (now (reaches .entry)) j 0)) ⌝ }
 {
-    let mut to = no_receivers();
+    let mut to = zero_words();
     let mut j: usize = 0;
     while j < n {
         to[j] = delivery::receivers(round, crashes[j], reaches[j]);
@@ -45,7 +34,7 @@ fn row_of(n: usize, hearer: usize, codes: [u8; 32], to: [u32; 32]) -> [u8; 32]
     requires size { ⌜ n ≤ 32 ⌝ }
     ensures heard { λ r. ⌜ Filled 0 32 n r (λ j. heardOf hearer (getD codes j 0) (getD to j 0)) ⌝ }
 {
-    let mut row = empty_row();
+    let mut row = zero_bytes();
     let mut j: usize = 0;
     while j < n {
         row[j] = delivery::heard_code(hearer, codes[j], to[j]);

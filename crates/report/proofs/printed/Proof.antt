@@ -13,14 +13,14 @@ use Rattle.report.proofs.Texts.{schedule-read, n-small, read-question, 
 use Rattle.report.proofs.printed.Statement.{statement}
 use Rattle.report.proofs.printed.Tie as tie
 
-blank-bytes-requires : tie.Need-blank-bytes-requires
-blank-bytes-requires c κs = search needs
+zero-bytes-requires : tie.Need-zero-bytes-requires
+zero-bytes-requires c κs = search needs
 
-blank-bytes-requires-2 : tie.Need-blank-bytes-requires-2
-blank-bytes-requires-2 c κs = search needs
+zero-bytes-requires-2 : tie.Need-zero-bytes-requires-2
+zero-bytes-requires-2 c κs = search needs
 
-blank-words-requires : tie.Need-blank-words-requires
-blank-words-requires c κs = search needs
+zero-words-requires : tie.Need-zero-words-requires
+zero-words-requires c κs = search needs
 
 slice-aggregate-read : tie.Need-slice-aggregate-read
 slice-aggregate-read c = search needs
@@ -38,11 +38,11 @@ enum-known-reading : tie.Need-enum-known-reading
 enum-known-reading c = search needs
 
 -- the reader's own tables have 32 entries
-sized : (c : tie.After-read) → (length (c .before .before .before .before .before .before .blank-bytes .result) ≡ 32) × (length (c .before .before .before .before .before .blank-bytes2 .result) ≡ 32) × (length (c .before .before .before .before .blank-words .result) ≡ 32)
+sized : (c : tie.After-read) → (length (c .before .before .before .before .before .before .zero-bytes .result) ≡ 32) × (length (c .before .before .before .before .before .zero-bytes2 .result) ≡ 32) × (length (c .before .before .before .before .zero-words .result) ≡ 32)
 sized c = (search needs, search needs, search needs)
 
 -- the text is accepted
-accepts : (c : tie.After-reading) → let r = c .before .before .before .before .before in accepted (record { n = c .reading .given .0 .0; t = c .reading .given .0 .1 .0 }) ≡ readAnswer largest longest (r .before .before .before .before .before .before .before .before .args .text .now) (r .before .before .before .before .before .before .blank-bytes .result) (r .before .before .before .before .before .blank-bytes2 .result) (r .before .before .before .before .blank-words .result)
+accepts : (c : tie.After-reading) → let r = c .before .before .before .before .before in accepted (record { n = c .reading .given .0 .0; t = c .reading .given .0 .1 .0 }) ≡ readAnswer largest longest (r .before .before .before .before .before .before .before .before .args .text .now) (r .before .before .before .before .before .before .zero-bytes .result) (r .before .before .before .before .before .zero-bytes2 .result) (r .before .before .before .before .zero-words .result)
 accepts c = let r = c .before .before .before .before .before in sym (ap readingIs (c .reading .given .1)) ∙ r .read .ensures .0
 
 -- and its schedule stands in the first n entries of the tables
@@ -63,7 +63,7 @@ enum-known-reading-2 : tie.Need-enum-known-reading-2
 enum-known-reading-2 c = search needs
 
 -- the text is refused
-refuses : (c : tie.After-reading2) → let r = c .before .before .before .before .before in refused (c .reading2 .given .0 .0) (c .reading2 .given .0 .1 .0) ≡ readAnswer largest longest (r .before .before .before .before .before .before .before .before .args .text .now) (r .before .before .before .before .before .before .blank-bytes .result) (r .before .before .before .before .before .blank-bytes2 .result) (r .before .before .before .before .blank-words .result)
+refuses : (c : tie.After-reading2) → let r = c .before .before .before .before .before in refused (c .reading2 .given .0 .0) (c .reading2 .given .0 .1 .0) ≡ readAnswer largest longest (r .before .before .before .before .before .before .before .before .args .text .now) (r .before .before .before .before .before .before .zero-bytes .result) (r .before .before .before .before .before .zero-bytes2 .result) (r .before .before .before .before .zero-words .result)
 refuses c = let r = c .before .before .before .before .before in sym (ap readingIs (c .reading2 .given .1)) ∙ r .read .ensures .0
 
 refused-requires : tie.Need-refused-requires
@@ -92,9 +92,9 @@ pub printed-spec : {M : Type 1} → statement M
 printed-spec =
     tie.close
     (tie.spec
-    blank-bytes-requires
-    blank-bytes-requires-2
-    blank-words-requires
+    zero-bytes-requires
+    zero-bytes-requires-2
+    zero-words-requires
     slice-aggregate-read
     slice-aggregate-read-2
     slice-aggregate-read-3

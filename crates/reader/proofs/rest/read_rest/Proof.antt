@@ -11,14 +11,14 @@ use Rattle.reader.proofs.Whole.{gives, keeps, filled-with, lines-refuse
 use Rattle.reader.proofs.rest.read_rest.Statement.{statement}
 use Rattle.reader.proofs.rest.read_rest.Tie as tie
 
-blank-bytes-requires : tie.Need-blank-bytes-requires
-blank-bytes-requires c κs = search needs
+zero-bytes-requires : tie.Need-zero-bytes-requires
+zero-bytes-requires c κs = search needs
 
-blank-bytes-requires-2 : tie.Need-blank-bytes-requires-2
-blank-bytes-requires-2 c κs = search needs
+zero-bytes-requires-2 : tie.Need-zero-bytes-requires-2
+zero-bytes-requires-2 c κs = search needs
 
-blank-words-requires : tie.Need-blank-words-requires
-blank-words-requires c κs = search needs
+zero-words-requires : tie.Need-zero-words-requires
+zero-words-requires c κs = search needs
 
 slice-aggregate-read-processes : tie.Need-slice-aggregate-read-processes
 slice-aggregate-read-processes c = search needs
@@ -131,9 +131,9 @@ pub read-rest-spec : {M : Type 1} → statement M
 read-rest-spec =
     tie.close
     (tie.spec
-    blank-bytes-requires
-    blank-bytes-requires-2
-    blank-words-requires
+    zero-bytes-requires
+    zero-bytes-requires-2
+    zero-words-requires
     slice-aggregate-read-processes
     slice-aggregate-read-processes-2
     slice-aggregate-read-processes-3

@@ -10,11 +10,11 @@ use Rattle.report.proofs.Texts.{answers-long}
 use Rattle.report.proofs.whole.of_tables.Statement.{statement}
 use Rattle.report.proofs.whole.of_tables.Tie as tie
 
-blank-bytes-requires : tie.Need-blank-bytes-requires
-blank-bytes-requires c κs = search needs
+zero-bytes-requires : tie.Need-zero-bytes-requires
+zero-bytes-requires c κs = search needs
 
-blank-bytes-requires-2 : tie.Need-blank-bytes-requires-2
-blank-bytes-requires-2 c κs = search needs
+zero-bytes-requires-2 : tie.Need-zero-bytes-requires-2
+zero-bytes-requires-2 c κs = search needs
 
 array-share-prefix-votes : tie.Need-array-share-prefix-votes
 array-share-prefix-votes c = search needs
@@ -38,19 +38,19 @@ array-borrow-prefix-decisions : tie.Need-array-borrow-prefix-decisions
 array-borrow-prefix-decisions c = search needs
 
 slice-aggregate-completed-4 : tie.Need-slice-aggregate-completed-4
-slice-aggregate-completed-4 c = sym (length-take-le (c .before .before .before .before .before .before .args .n) (c .before .before .before .before .before .blank-bytes .result) (search needs))
+slice-aggregate-completed-4 c = sym (length-take-le (c .before .before .before .before .before .before .args .n) (c .before .before .before .before .before .zero-bytes .result) (search needs))
 
 array-borrow-prefix-rounds : tie.Need-array-borrow-prefix-rounds
 array-borrow-prefix-rounds c = search needs
 
 slice-aggregate-completed-5 : tie.Need-slice-aggregate-completed-5
-slice-aggregate-completed-5 c = sym (length-take-le (c .before .before .before .before .before .before .before .args .n) (c .before .before .before .before .before .blank-bytes2 .result) (search needs))
+slice-aggregate-completed-5 c = sym (length-take-le (c .before .before .before .before .before .before .before .args .n) (c .before .before .before .before .before .zero-bytes2 .result) (search needs))
 
 completed-requires : tie.Need-completed-requires
 completed-requires c κs =
     let a = c .before .before .before .before .before .before .before .args in
     let s = scheduleOf (a .n) (a .t) (take (a .n) (a .t3)) (take (a .n) (a .t4)) (take (a .n) (a .t5)) in
-    let long = answers-long (a .n) _ _ (length-take-le (a .n) (c .before .before .before .before .before .before .blank-bytes .result) (search needs)) (length-take-le (a .n) (c .before .before .before .before .before .blank-bytes2 .result) (search needs)) in
+    let long = answers-long (a .n) _ _ (length-take-le (a .n) (c .before .before .before .before .before .before .zero-bytes .result) (search needs)) (length-take-le (a .n) (c .before .before .before .before .before .zero-bytes2 .result) (search needs)) in
     ap (question s largest) long ∙ c .before .before .before .before .before .before .before .pre .1
 
 returns : tie.Need-returns
@@ -60,8 +60,8 @@ pub of-tables-spec : {M : Type 1} → statement M
 of-tables-spec =
     tie.close
     (tie.spec
-    blank-bytes-requires
-    blank-bytes-requires-2
+    zero-bytes-requires
+    zero-bytes-requires-2
     array-share-prefix-votes
     slice-aggregate-completed
     array-share-prefix-crashes

@@ -16,11 +16,11 @@ Inv-loop n members codes₀ i₀ codes i = (i ≤ n) × Filled 0 32 i codes (λ 
 abbrev μ-loop : tie.MeasureT-loop
 μ-loop n members codes₀ i₀ codes i = n - i
 
-empty-row-requires : tie.Need-empty-row-requires Inv-loop μ-loop
-empty-row-requires c κs = search needs
+zero-bytes-requires : tie.Need-zero-bytes-requires Inv-loop μ-loop
+zero-bytes-requires c κs = search needs
 
 loop-holds : tie.Need-loop-holds Inv-loop μ-loop
-loop-holds c = (omega arith, each-none (c .empty-row .ensures))
+loop-holds c = (omega arith, each-none (c .zero-bytes .ensures .1))
 
 mul-m : tie.Need-mul-m Inv-loop μ-loop
 mul-m c = omega arith
@@ -52,7 +52,7 @@ codes-said-spec =
     (tie.spec
     Inv-loop
     μ-loop
-    empty-row-requires
+    zero-bytes-requires
     loop-holds
     mul-m
     array-copy-out-m

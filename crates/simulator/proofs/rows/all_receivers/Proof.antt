@@ -15,11 +15,11 @@ Inv-loop n round crashes reaches to₀ j₀ to j = (j ≤ n) × Filled 0 32 j to
 abbrev μ-loop : tie.MeasureT-loop
 μ-loop n round crashes reaches to₀ j₀ to j = n - j
 
-no-receivers-requires : tie.Need-no-receivers-requires Inv-loop μ-loop
-no-receivers-requires c κs = search needs
+zero-words-requires : tie.Need-zero-words-requires Inv-loop μ-loop
+zero-words-requires c κs = search needs
 
 loop-holds : tie.Need-loop-holds Inv-loop μ-loop
-loop-holds c = (omega arith, each-none (c .no-receivers .ensures))
+loop-holds c = (omega arith, each-none (c .zero-words .ensures .1))
 
 shared-slice-read-receivers : tie.Need-shared-slice-read-receivers Inv-loop μ-loop
 shared-slice-read-receivers c = omega arith
@@ -57,7 +57,7 @@ all-receivers-spec =
     (tie.spec
     Inv-loop
     μ-loop
-    no-receivers-requires
+    zero-words-requires
     loop-holds
     shared-slice-read-receivers
     mul-receivers

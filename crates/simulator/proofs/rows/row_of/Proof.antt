@@ -15,11 +15,11 @@ Inv-loop n hearer codes to row₀ j₀ row j = (j ≤ n) × Filled 0 32 j row (�
 abbrev μ-loop : tie.MeasureT-loop
 μ-loop n hearer codes to row₀ j₀ row j = n - j
 
-empty-row-requires : tie.Need-empty-row-requires Inv-loop μ-loop
-empty-row-requires c κs = search needs
+zero-bytes-requires : tie.Need-zero-bytes-requires Inv-loop μ-loop
+zero-bytes-requires c κs = search needs
 
 loop-holds : tie.Need-loop-holds Inv-loop μ-loop
-loop-holds c = (omega arith, each-none (c .empty-row .ensures))
+loop-holds c = (omega arith, each-none (c .zero-bytes .ensures .1))
 
 array-read-heard-code : tie.Need-array-read-heard-code Inv-loop μ-loop
 array-read-heard-code c = omega arith
@@ -54,7 +54,7 @@ row-of-spec =
     (tie.spec
     Inv-loop
     μ-loop
-    empty-row-requires
+    zero-bytes-requires
     loop-holds
     array-read-heard-code
     mul-heard-code
