@@ -10,7 +10,7 @@ use borrow.Author.Count.{below-none}
 use borrow.Author.Tests.{eqb-true, eqb-false, eq-eqb, ne-eqb}
 use lib.Dec.{eqb}
 use Rattle.laws.specs.Below.{fold}
-use Rattle.laws.specs.Answer.{ask, andThen, askEach, Answer, accepted, refused, answer, andNext, nextEach}
+use Rattle.laws.specs.Answer.{ask, andThen, askEach, Answer, accepted, refused, answer, placeAfter, andNext, nextEach}
 use Rattle.laws.proofs.Test.{true-or-false, cond-true, cond-false}
 use Rattle.laws.proofs.Counting.{Some, split, below-or-top}
 
@@ -76,6 +76,44 @@ module _ {A B : Type 0} where
       isAccepted : Answer A B → Bool
       isAccepted (accepted value) = true
       isAccepted (refused number back) = false
+
+  -- an accepted answer is that of a call whose questions come to 0, and a refused one has the number that they come to
+  pub accepted-is : (q : ℕ) (value : A) (back : B) {x : A} → accepted x ≡ answer q value back → (q ≡ 0) × (x ≡ value)
+  accepted-is q value back {x} e =
+      elim (true-or-false (eqb q 0)) [
+        | inl z ↦ (eqb-true q 0 z, ap (valueOr x) (e ∙ answer-accepted q value back (eqb-true q 0 z)))
+        | inr z ↦ absurd (not-accepted (sym (e ∙ answer-refused q value back (eqb-false q 0 z))))
+      ]
+
+  pub refused-is : (q : ℕ) (value : A) (back : B) {k : ℕ} {b : B} → refused k b ≡ answer q value back → (k ≡ q) × (q ≡ 0 → ⊥)
+  refused-is q value back {k} e =
+      elim (true-or-false (eqb q 0)) [
+        | inl z ↦ absurd (not-accepted (e ∙ answer-accepted q value back (eqb-true q 0 z)))
+        | inr z ↦ (ap (numberOr k) (e ∙ answer-refused q value back (eqb-false q 0 z)), eqb-false q 0 z)
+      ]
+    where
+      -- the number of a refusal, or x where it is accepted
+      numberOr : ℕ → Answer A B → ℕ
+      numberOr x (accepted value) = x
+      numberOr x (refused number back) = number
+
+-- A lent place after a call that is accepted, and after one that is refused.
+module _ {A : Type 0} where
+  pub place-given : (q : ℕ) (given lent : A) → q ≡ 0 → placeAfter q given lent ≡ given
+  unfolding placeAfter
+  place-given q given lent e = rw (eq-eqb q 0 e)
+
+  pub place-kept : (q : ℕ) (given lent : A) → (q ≡ 0 → ⊥) → placeAfter q given lent ≡ lent
+  unfolding placeAfter
+  place-kept q given lent e = rw (ne-eqb q 0 e)
+
+-- A call whose questions come to q, and what it leaves in a lent place for its value: the number and the place by its answer.
+module _ {A B C : Type 0} (q : ℕ) (value : A) (back : B) (entered : A → C) (lent : C) where
+  pub answer-given : {x : A} → accepted x ≡ answer q value back → (0 ≡ q) × (entered x ≡ placeAfter q (entered value) lent)
+  answer-given e = let z = accepted-is q value back e in (sym (z .0), ap entered (z .1) ∙ sym (place-given q _ lent (z .0)))
+
+  pub answer-kept : {k : ℕ} {b : B} → refused k b ≡ answer q value back → (k ≡ q) × (lent ≡ placeAfter q (entered value) lent)
+  answer-kept e = let z = refused-is q value back e in (z .0, sym (place-kept q (entered value) lent (z .1)))
 
 -- Rows of questions that give something back with their first no, one after the other.
 module _ {B : Type 0} where

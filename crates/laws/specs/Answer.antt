@@ -28,6 +28,10 @@ pub data Answer (A B : Type 0) : Type 0 where
 unfoldable pub answer : {A B : Type 0} → ℕ → A → B → Answer A B
 answer q value back = cond (eqb q 0) (accepted value) (refused q back)
 
+-- what stands in a lent place after a call whose questions come to q: what is given for it, or, if the call is refused, what stood there
+unfoldable pub placeAfter : {A : Type 0} → ℕ → A → A → A
+placeAfter q given lent = cond (eqb q 0) given lent
+
 -- One row of questions, which gives b back with its first no, and those after it.
 unfoldable pub andNext : {A B : Type 0} → Answer (Unit {0}) B → Answer A B → Answer A B
 andNext (accepted _) others = others

@@ -6,12 +6,12 @@ use mathlib.Core.List.{List}
 use mathlib.Core.Bool.{Bool}
 use Prim.Native.Nat.{ℕ, _≤_}
 use native.Mathlib.Omega.{arith}
-use borrow.Author.Tests.{eq-eqb, eqb-true, eqb-false}
+use borrow.Author.Tests.{eqb-true, eqb-false}
 use lib.ListN.{length, getD}
 use lib.Dec.{eqb}
-use Rattle.laws.specs.Answer.{Answer, accepted}
-use Rattle.laws.proofs.Test.{true-or-false, cond-true}
-use Rattle.laws.proofs.Answer.{answer-accepted, valueOr}
+use Rattle.laws.specs.Answer.{Answer, accepted, placeAfter}
+use Rattle.laws.proofs.Test.{true-or-false}
+use Rattle.laws.proofs.Answer.{answer-accepted, valueOr, place-given}
 use Rattle.schedule.specs.Schedule.{Schedule}
 use Rattle.schedule.specs.Questions.{question}
 use Rattle.schedule.proofs.Accepted.{question-accepted}
@@ -19,7 +19,7 @@ use Rattle.run.specs.Protocol.{fcwfa}
 use Rattle.run.specs.Report.{Report, report}
 use Rattle.run.proofs.Theorem.{accepted-run}
 use Rattle.simulator.specs.declared.Counts.{Counts}
-use Rattle.simulator.specs.Answers.{countsOf, givenBy, simulateQuestion, simulateAnswer, tableAfter}
+use Rattle.simulator.specs.Answers.{countsOf, givenBy, simulateQuestion, simulateAnswer}
 use Rattle.text.specs.Output.{reportText}
 use Rattle.report.specs.Bytes.{AllDecisions}
 
@@ -28,9 +28,8 @@ module _ (limit : ℕ) (s : Schedule) (decisions rounds : List ℕ) (passed : si
   unfolding simulateAnswer
   counts-given = answer-accepted _ _ _ passed
 
-  pub table-given : (given lent : List ℕ) → tableAfter limit s decisions rounds given lent ≡ given
-  unfolding tableAfter
-  table-given given lent = cond-true _ given lent (eq-eqb _ 0 passed)
+  pub table-given : (given lent : List ℕ) → placeAfter (simulateQuestion limit s decisions rounds) given lent ≡ given
+  table-given given lent = place-given _ given lent passed
 
 module _ (s : Schedule) (limit : ℕ) (answers : Bool) (passed : question s limit answers ≡ 0) where
   pub n-small : s .n ≤ limit

@@ -4,15 +4,15 @@ use mathlib.Core.Path.{_≡_, refl, sym, ap, _∙_, subst}
 use mathlib.Core.List.{List}
 use mathlib.Core.Bool.{Bool, true, cond, _&&_}
 use Prim.Native.Nat.{ℕ, _≤_}
-use borrow.Author.Tests.{eqb-true, eq-eqb, ne-eqb}
+use borrow.Author.Tests.{eqb-true}
 use lib.Dec.{eqb}
 use lib.ListN.{length, getD}
 use Rattle.laws.specs.Below.{tabulate}
 use Rattle.laws.specs.Filled.{Filled}
-use Rattle.laws.specs.Answer.{accepted, refused}
-use Rattle.laws.proofs.Test.{and-left, and-right, cond-true, cond-false}
+use Rattle.laws.specs.Answer.{accepted, refused, placeAfter}
+use Rattle.laws.proofs.Test.{and-left, and-right}
 use Rattle.laws.proofs.Lists.{length-tabulate, tabulate-same}
-use Rattle.laws.proofs.Answer.{answer-accepted, answer-refused, valueOr, not-accepted}
+use Rattle.laws.proofs.Answer.{answer-accepted, answer-refused, valueOr, not-accepted, place-given, place-kept}
 use Rattle.member.specs.declared.Member.{Member}
 use Rattle.member.specs.Opening.{largest}
 use Rattle.schedule.specs.Schedule.{Schedule, crashesIn}
@@ -26,7 +26,7 @@ use Rattle.run.proofs.Reported.{rounds-read}
 use Rattle.run.proofs.Theorem.{accepted-run}
 use Rattle.simulator.specs.declared.Counts.{Counts}
 use Rattle.simulator.specs.declared.Simulated.the-variants.{Completed, Refused}
-use Rattle.simulator.specs.Answers.{simulatedIs, countsOf, answersLong, simulateQuestion, simulateAnswer, tableAfter, decisionsAfter, roundsAfter, givenBy, AnswersKeepDemand3}
+use Rattle.simulator.specs.Answers.{simulatedIs, countsOf, answersLong, simulateQuestion, simulateAnswer, decisionsAfter, roundsAfter, givenBy, AnswersKeepDemand3}
 use Rattle.simulator.specs.Rounds.{nobody}
 
 -- the number that the code finds is that of the call
@@ -45,9 +45,8 @@ module _ (s : Schedule) (decisions rounds : List ℕ) {q : ℕ} (asked : q ≡ s
     unfolding simulateAnswer
     refused-answer = ap (λ (k : ℕ). refused k tt) asked ∙ sym (answer-refused _ _ tt refusing)
 
-    pub kept-table : (given lent : List ℕ) → lent ≡ tableAfter largest s decisions rounds given lent
-    unfolding tableAfter
-    kept-table given lent = sym (cond-false _ given lent (ne-eqb _ 0 refusing))
+    pub kept-table : (given lent : List ℕ) → lent ≡ placeAfter (simulateQuestion largest s decisions rounds) given lent
+    kept-table given lent = sym (place-kept _ given lent refusing)
 
     pub refused-keeps : AnswersKeepDemand3 s (Refused q) decisions rounds
     refused-keeps = record { kept = λ counts e. absurd (not-accepted e) }
@@ -84,9 +83,8 @@ module _ (s : Schedule) (decisions rounds : List ℕ) {q : ℕ} (asked : q ≡ s
     pub small : s .n ≤ 32
     small = accepts .n-high
 
-    given-table : (given lent : List ℕ) → given ≡ tableAfter largest s decisions rounds given lent
-    unfolding tableAfter
-    given-table given lent = sym (cond-true _ given lent (eq-eqb _ 0 passed))
+    given-table : (given lent : List ℕ) → given ≡ placeAfter (simulateQuestion largest s decisions rounds) given lent
+    given-table given lent = sym (place-given _ given lent passed)
 
     module _ {members : List Member} (h : Filled nobody 32 (s .n) members (stateAt fcwfa (final fcwfa s))) where
       decisions-are : {given : List ℕ} → given ≡ tabulate (length decisions) (decisionOf fcwfa members) → given ≡ report fcwfa s .decisions

@@ -2,10 +2,10 @@
 use Prim.Native.Nat.{ℕ}
 use mathlib.Core.Path.{_≡_}
 use mathlib.Core.List.{List}
-use mathlib.Core.Bool.{Bool, cond, _&&_}
+use mathlib.Core.Bool.{Bool, _&&_}
 use lib.ListN.{length}
 use lib.Dec.{eqb}
-use Rattle.laws.specs.Answer.{Answer, accepted, refused, answer}
+use Rattle.laws.specs.Answer.{Answer, accepted, refused, answer, placeAfter}
 use Rattle.schedule.specs.Schedule.{Schedule}
 use Rattle.schedule.specs.Questions.{question}
 use Rattle.run.specs.Protocol.{fcwfa}
@@ -37,15 +37,12 @@ module _ (limit : ℕ) (s : Schedule) (decisions rounds : List ℕ) where
   unfoldable pub simulateAnswer : Answer Counts (Unit {0})
   simulateAnswer = answer simulateQuestion (countsOf (report fcwfa s)) tt
 
-  -- a table after the call: what is given for it, or as it was lent if the call is refused
-  unfoldable pub tableAfter : List ℕ → List ℕ → List ℕ
-  tableAfter given lent = cond (eqb simulateQuestion 0) given lent
-
+  -- the tables after the call: what is given for each, or as it was lent if the call is refused
   abbrev pub decisionsAfter : List ℕ
-  decisionsAfter = tableAfter (report fcwfa s .decisions) decisions
+  decisionsAfter = placeAfter simulateQuestion (report fcwfa s .decisions) decisions
 
   abbrev pub roundsAfter : List ℕ
-  roundsAfter = tableAfter (report fcwfa s .rounds) rounds
+  roundsAfter = placeAfter simulateQuestion (report fcwfa s .rounds) rounds
 
 -- what the call gave, as a report: its counts, and the two tables after it
 abbrev pub givenBy : Counts → List ℕ → List ℕ → Report

@@ -1,0 +1,21 @@
+-- What the simulator gives as numbers: 0 or the number of a refusal, four counts, and two tables.
+use Prim.Native.Nat.{ℕ}
+use mathlib.Core.Path.{_≡_}
+use mathlib.Core.List.{List, [], _∷_}
+use lib.ListN.{getD}
+use Rattle.schedule.specs.Schedule.{Schedule}
+use Rattle.run.specs.Given.{GivenDemand3}
+use Rattle.simulator.specs.declared.Counts.{Counts}
+use Rattle.simulator.specs.Answers.{givenBy}
+
+-- the counts as four numbers, "f; last ..; first ..; messages", in the order of the report's heading: f, first, last, messages
+abbrev pub countsNumbers : Counts → List ℕ
+countsNumbers counts = counts .f ∷ counts .first ∷ counts .last ∷ counts .messages ∷ []
+
+-- the counts that stand in four numbers
+abbrev pub countsIn : List ℕ → Counts
+countsIn numbers = record { f = getD numbers 0 0; first = getD numbers 1 0; last = getD numbers 2 0; messages = getD numbers 3 0 }
+
+-- Demand 3 of the numbers as given: wherever the call answers 0, with the counts and the two tables after the call.
+pub record NumbersKeepDemand3 (s : Schedule) (number : ℕ) (counts decisions rounds : List ℕ) : Type 0 where
+  pub kept : number ≡ 0 → GivenDemand3 s (givenBy (countsIn counts) decisions rounds)

@@ -1,0 +1,51 @@
+// The simulator for programs in C and Rust: `simulate` on numbers and tables.
+//
+// It answers 0, or the number of the first question whose answer is no; then what it was lent is as
+// before. It takes anything; a caller owes only pointers that are good for the sizes given and, of the three
+// places that are written, do not overlap with another.
+ghost use mathlib.Core.Path.{_≡_};
+ghost use Rattle.laws.specs.Answer.{placeAfter};
+ghost use Rattle.member.specs.Opening.{largest};
+ghost use Rattle.schedule.specs.Schedule.{scheduleOf};
+ghost use Rattle.run.specs.Protocol.{fcwfa};
+ghost use Rattle.run.specs.Report.{report};
+ghost use Rattle.simulator.specs.Answers.{countsOf, simulateQuestion, decisionsAfter, roundsAfter};
+ghost use Rattle.fcwfa_simulator.specs.Numbers.{countsNumbers, NumbersKeepDemand3};
+use simulator::Counts;
+use simulator::Simulated;
+
+// The four counts in the report's order.
+fn counts_numbers(counts: Counts) -> [usize; 4]
+    ensures are { λ r. ⌜ r ≡ countsNumbers counts ⌝ }
+{
+    [counts.f, counts.first, counts.last, counts.messages]
+}
+
+// Runs the schedule of these tables to its end: `decisions` and `rounds` get the decision of each
+// process, 2 for none, and its round, 0 for none; `counts` gets f, first, last and messages.
+#[no_mangle]
+pub extern "C" fn fcwfa_simulate(
+    n: usize,
+    t: usize,
+    votes: &[u8],
+    crashes: &[u8],
+    reaches: &[u32],
+    decisions: &mut [u8],
+    rounds: &mut [u8],
+    counts: &mut [usize; 4],
+) -> u8
+    ensures number { λ r. ⌜ r ≡ simulateQuestion largest (scheduleOf n t (now (votes .entry)) (now (crashes .entry)) (now (reaches .entry))) (now (decisions .entry)) (now (rounds .entry)) ⌝ }
+    ensures decisions_given { λ r. ⌜ now (decisions .exit) ≡ decisionsAfter largest (scheduleOf n t (now (votes .entry)) (now (crashes .entry)) (now (reaches .entry))) (now (decisions .entry)) (now (rounds .entry)) ⌝ }
+    ensures rounds_given { λ r. ⌜ now (rounds .exit) ≡ roundsAfter largest (scheduleOf n t (now (votes .entry)) (now (crashes .entry)) (now (reaches .entry))) (now (decisions .entry)) (now (rounds .entry)) ⌝ }
+    ensures counts_given { λ r. ⌜ now (counts .exit) ≡ placeAfter (simulateQuestion largest (scheduleOf n t (now (votes .entry)) (now (crashes .entry)) (now (reaches .entry))) (now (decisions .entry)) (now (rounds .entry))) (countsNumbers (countsOf (report fcwfa (scheduleOf n t (now (votes .entry)) (now (crashes .entry)) (now (reaches .entry)))))) (now (counts .entry)) ⌝ }
+    ensures demand_3 { λ r. ⌜ NumbersKeepDemand3 (scheduleOf n t (now (votes .entry)) (now (crashes .entry)) (now (reaches .entry))) r (now (counts .exit)) (now (decisions .exit)) (now (rounds .exit)) ⌝ }
+{
+    let answer = simulator::simulate(n, t, votes, crashes, reaches, decisions, rounds);
+    match answer {
+        Simulated::Completed(given) => {
+            *counts = counts_numbers(given);
+            0
+        }
+        Simulated::Refused(number) => number,
+    }
+}

@@ -1,0 +1,144 @@
+/*
+ * One process of FCWFA, the fast-commit, weakly fast-abort atomic commit
+ * protocol, and the simulator of a whole cluster: the proved functions of
+ * libfcwfa_member.a and libfcwfa_simulator.a (x86-64 Linux).
+ *
+ * Every function takes any numbers and any bytes. It returns 0 (FCWFA_OK) and
+ * does its work, or the number of the first question whose answer is no (the
+ * FCWFA_REFUSED_ numbers below) and then leaves everything it was lent as it
+ * was. No function allocates, keeps anything between calls, or fails in
+ * another way, and any number of threads may call them.
+ *
+ * A caller owes this alone: each pointer is not NULL, also where its length is
+ * 0, and is good for the number of entries that is said or given with it; and what a
+ * function writes overlaps with nothing else that the same call is lent.
+ */
+#ifndef FCWFA_H
+#define FCWFA_H
+
+#include <stddef.h>
+#include <stdint.h>
+
+#ifdef __cplusplus
+extern "C" {
+#endif
+
+/* The work is done. */
+#define FCWFA_OK 0
+
+/* n, the number of processes, is not from 4 to 32. */
+#define FCWFA_REFUSED_N 1
+/* t, the number of crashes to bear, is not from 3 to n - 1. */
+#define FCWFA_REFUSED_T 2
+/* A table is not n long. */
+#define FCWFA_REFUSED_LENGTH 3
+/* A vote is not 0 or 1. */
+#define FCWFA_REFUSED_VOTE 4
+/* A crash round is above t + 1. */
+#define FCWFA_REFUSED_CRASH 5
+/* A reach names a process above n or its own, or stands where the crash round is 0. */
+#define FCWFA_REFUSED_REACH 6
+/* More than t processes crash. */
+#define FCWFA_REFUSED_CRASHES 7
+/* The own number is not from 1 to n. */
+#define FCWFA_REFUSED_ID 10
+/* The six bytes are not a state in range. */
+#define FCWFA_REFUSED_STATE 11
+/* The member has stopped. */
+#define FCWFA_REFUSED_STOPPED 12
+/* The row is not n long. */
+#define FCWFA_REFUSED_ROW_LENGTH 13
+/* A code of the row is above 4. */
+#define FCWFA_REFUSED_CODE 14
+/* The row's own place is not what the member says now. */
+#define FCWFA_REFUSED_OWN_PLACE 15
+/* A decided message (code 3 or 4) stands in a row of round 1 or 2. */
+#define FCWFA_REFUSED_EARLY 16
+/* Both decided messages, 3 and 4, stand in the row. */
+#define FCWFA_REFUSED_BOTH 17
+
+/*
+ * A member's state is six bytes, one number in each, at these offsets. Store
+ * and send them as they are; there is nothing else to a member.
+ */
+#define FCWFA_STATE_BYTES 6
+/* The number of processes. */
+#define FCWFA_STATE_N 0
+/* The number of crashes to bear. */
+#define FCWFA_STATE_T 1
+/* The member's own number, from 1. */
+#define FCWFA_STATE_ID 2
+/* The round to play next. */
+#define FCWFA_STATE_ROUND 3
+/* The estimate, 0 (abort) or 1 (commit): the decision, once decided. */
+#define FCWFA_STATE_ESTIMATE 4
+/* The round in which the member decided, 0 while it has not. */
+#define FCWFA_STATE_DECIDED 5
+
+/* What a member says in a round, and what stands in a row for each sender. */
+#define FCWFA_NOTHING 0
+#define FCWFA_ESTIMATE_0 1
+#define FCWFA_ESTIMATE_1 2
+#define FCWFA_DECIDED_0 3
+#define FCWFA_DECIDED_1 4
+
+/*
+ * Opens member `id` of n with t crashes to bear and its vote, 0 or 1: writes
+ * the state to `state`.
+ * Refusals, in this order: 1, 2, 10, 4.
+ */
+uint8_t fcwfa_open(size_t n, size_t t, size_t id, uint8_t vote,
+                   uint8_t state[FCWFA_STATE_BYTES]);
+
+/*
+ * Writes the code that the member says in the round to come to `code`. A
+ * member that says FCWFA_NOTHING has stopped.
+ * Refusal: 11.
+ */
+uint8_t fcwfa_say(const uint8_t state[FCWFA_STATE_BYTES], uint8_t *code);
+
+/*
+ * Hears the row of a round: one code for each process in order, the member's
+ * own included, FCWFA_NOTHING for a process from which nothing came. The state
+ * becomes that of the next round.
+ * Refusals, in this order: 11, 12, 13, 14, 15, 16, 17.
+ */
+uint8_t fcwfa_hear(uint8_t state[FCWFA_STATE_BYTES], const uint8_t *row,
+                   size_t row_length);
+
+/* What fcwfa_simulate writes to `counts`, at these places. */
+#define FCWFA_COUNTS 4
+/* How many processes crash. */
+#define FCWFA_COUNT_F 0
+/* The process that decided first; among equals the lowest number. */
+#define FCWFA_COUNT_FIRST 1
+/* The largest decided round. */
+#define FCWFA_COUNT_LAST 2
+/* How many messages were sent, copies to oneself included. */
+#define FCWFA_COUNT_MESSAGES 3
+
+/* The decision of a process that made none. Its round is 0. */
+#define FCWFA_NO_DECISION 2
+
+/*
+ * Runs a whole cluster to its end. Entry i - 1 of each table is process i's:
+ * its vote, 0 or 1; its crash round, 0 (never) or 1 to t + 1; and its reach,
+ * the processes that still get the message of the crash round (bit j - 1 stands
+ * for process j). Writes each process's decision (0, 1 or FCWFA_NO_DECISION)
+ * and the round of it, and the four counts. All five tables are n long.
+ * Refusals, in this order: 1, 2, 3, then for each process in turn 4, 5, 6, and
+ * last 7.
+ */
+uint8_t fcwfa_simulate(size_t n, size_t t,
+                       const uint8_t *votes, size_t votes_length,
+                       const uint8_t *crashes, size_t crashes_length,
+                       const uint32_t *reaches, size_t reaches_length,
+                       uint8_t *decisions, size_t decisions_length,
+                       uint8_t *rounds, size_t rounds_length,
+                       size_t counts[FCWFA_COUNTS]);
+
+#ifdef __cplusplus
+}
+#endif
+
+#endif

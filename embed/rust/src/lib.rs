@@ -1,0 +1,162 @@
+//! One process of FCWFA, the fast-commit, weakly fast-abort atomic commit protocol, and the simulator of a whole cluster.
+//!
+//! The work is done by the proved functions of `libfcwfa_member.a` and `libfcwfa_simulator.a`; this crate only hands them slices. Every call
+//! takes any values. It does its work, or answers a [`Refusal`] and leaves everything it was lent as it was. What the numbers mean is
+//! written in `embed/fcwfa.h`.
+#![warn(missing_docs)]
+
+use std::fmt;
+
+mod foreign {
+    extern "C" {
+        pub fn fcwfa_open(n: usize, t: usize, id: usize, vote: u8, state: *mut u8) -> u8;
+        pub fn fcwfa_say(state: *const u8, code: *mut u8) -> u8;
+        pub fn fcwfa_hear(state: *mut u8, row: *const u8, row_length: usize) -> u8;
+        pub fn fcwfa_simulate(
+            n: usize,
+            t: usize,
+            votes: *const u8,
+            votes_length: usize,
+            crashes: *const u8,
+            crashes_length: usize,
+            reaches: *const u32,
+            reaches_length: usize,
+            decisions: *mut u8,
+            decisions_length: usize,
+            rounds: *mut u8,
+            rounds_length: usize,
+            counts: *mut usize,
+        ) -> u8;
+    }
+}
+
+/// The number of the first question whose answer is no.
+#[derive(Clone, Copy, Debug, PartialEq, Eq)]
+pub struct Refusal(pub u8);
+
+impl fmt::Display for Refusal {
+    fn fmt(&self, f: &mut fmt::Formatter<'_>) -> fmt::Result {
+        write!(f, "refused by question {}", self.0)
+    }
+}
+
+impl std::error::Error for Refusal {}
+
+/// A call's number as a result: 0 is no refusal.
+fn accepted<T>(number: u8, value: T) -> Result<T, Refusal> {
+    match number {
+        0 => Ok(value),
+        _ => Err(Refusal(number)),
+    }
+}
+
+/// A member's state: n, t, own number, the round to play next, the estimate and the decided round, a byte each.
+///
+/// Any six bytes may stand here, as read from a file, say: the calls refuse a state that is not in range.
+#[derive(Clone, Copy, Debug, PartialEq, Eq)]
+pub struct Member {
+    /// The six bytes, as `embed/fcwfa.h` places them.
+    pub bytes: [u8; 6],
+}
+
+impl Member {
+    /// A new member with its vote. Refusals: 1, 2, 10, 4.
+    pub fn open(n: usize, t: usize, id: usize, vote: u8) -> Result<Member, Refusal> {
+        let mut bytes = [0; 6];
+        // SAFETY: the pointer is good for the six bytes that the function writes.
+        let number = unsafe { foreign::fcwfa_open(n, t, id, vote, bytes.as_mut_ptr()) };
+        accepted(number, Member { bytes })
+    }
+
+    /// The code that the member says in the round to come: 0 nothing, 1 or 2 the estimate 0 or 1, 3 or 4 decided 0 or 1. Refusal: 11.
+    pub fn say(&self) -> Result<u8, Refusal> {
+        let mut code = 0;
+        // SAFETY: the state's pointer is good for six bytes and the code's for one, and they do not overlap.
+        let number = unsafe { foreign::fcwfa_say(self.bytes.as_ptr(), &mut code) };
+        accepted(number, code)
+    }
+
+    /// Hears the row of a round, a code for each process in order. Refusals: 11 to 17; the state is then as it was.
+    pub fn hear(&mut self, row: &[u8]) -> Result<(), Refusal> {
+        // SAFETY: the state's pointer is good for six bytes and the row's for its length, and they do not overlap.
+        let number =
+            unsafe { foreign::fcwfa_hear(self.bytes.as_mut_ptr(), row.as_ptr(), row.len()) };
+        accepted(number, ())
+    }
+
+    /// The member's own number, from 1.
+    pub fn id(&self) -> u8 {
+        self.bytes[2]
+    }
+
+    /// The round to play next.
+    pub fn round(&self) -> u8 {
+        self.bytes[3]
+    }
+
+    /// The decision and its round, once there is one.
+    pub fn decision(&self) -> Option<(u8, u8)> {
+        match self.bytes[5] {
+            0 => None,
+            round => Some((self.bytes[4], round)),
+        }
+    }
+}
+
+/// The counts of a run.
+#[derive(Clone, Copy, Debug, PartialEq, Eq)]
+pub struct Counts {
+    /// How many processes crash.
+    pub f: usize,
+    /// The process that decided first; among equals the lowest number.
+    pub first: usize,
+    /// The largest decided round.
+    pub last: usize,
+    /// How many messages were sent, copies to oneself included.
+    pub messages: usize,
+}
+
+/// Runs a whole cluster to its end. Entry i - 1 of each table is process i's; a reach has bit j - 1 for process j. `decisions` gets 0, 1 or 2
+/// (none) for each process, and `rounds` the round of it, 0 for none.
+///
+/// Refusals: 1, 2, 3 (all five tables are n long), 4, 5, 6 for each process in turn, 7; the two tables are then as they were.
+pub fn simulate(
+    n: usize,
+    t: usize,
+    votes: &[u8],
+    crashes: &[u8],
+    reaches: &[u32],
+    decisions: &mut [u8],
+    rounds: &mut [u8],
+) -> Result<Counts, Refusal> {
+    let mut counts = [0; 4];
+    // SAFETY: each pointer is good for the length given with it and the last for four numbers; what is written is lent by `&mut`, so it
+    // overlaps with nothing else.
+    let number = unsafe {
+        foreign::fcwfa_simulate(
+            n,
+            t,
+            votes.as_ptr(),
+            votes.len(),
+            crashes.as_ptr(),
+            crashes.len(),
+            reaches.as_ptr(),
+            reaches.len(),
+            decisions.as_mut_ptr(),
+            decisions.len(),
+            rounds.as_mut_ptr(),
+            rounds.len(),
+            counts.as_mut_ptr(),
+        )
+    };
+    let [f, first, last, messages] = counts;
+    accepted(
+        number,
+        Counts {
+            f,
+            first,
+            last,
+            messages,
+        },
+    )
+}
