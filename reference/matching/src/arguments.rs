@@ -1,0 +1,130 @@
+//! The program's arguments.
+
+use std::path::PathBuf;
+
+/// What the program says when its arguments are wrong.
+pub const USAGE: &str = "\
+matching [--bench PATH] [--seed S]... [--valid N] [--damaged N] [--tables N] [--members N] [--skip-small]
+matching --self-test";
+
+/// The arguments with their defaults filled in.
+#[derive(Clone, Debug, PartialEq, Eq)]
+pub struct Arguments {
+    /// Show that differences are found, in place of the matching.
+    pub self_test: bool,
+    /// The compiled `bench`; without it the texts are skipped.
+    pub bench: Option<PathBuf>,
+    /// Everything random is done for each seed.
+    pub seeds: Vec<u64>,
+    /// How many texts of accepted schedules.
+    pub valid: u64,
+    /// How many damaged texts that are refused.
+    pub damaged: u64,
+    /// How many calls on tables.
+    pub tables: u64,
+    /// How many calls to a member.
+    pub members: u64,
+    /// Skip the schedules with n = 4 and t = 3.
+    pub skip_small: bool,
+}
+
+impl Default for Arguments {
+    fn default() -> Arguments {
+        Arguments {
+            self_test: false,
+            bench: None,
+            seeds: Vec::new(),
+            valid: 4_000,
+            damaged: 4_000,
+            tables: 200_000,
+            members: 1_000_000,
+            skip_small: false,
+        }
+    }
+}
+
+/// Reads the arguments after the program's name.
+pub fn parse(given: impl Iterator<Item = String>) -> Result<Arguments, String> {
+    let mut arguments = Arguments::default();
+    let mut given = given.peekable();
+    if given.next_if(|name| name == "--self-test").is_some() {
+        arguments.self_test = true;
+        return match given.next() {
+            None => Ok(arguments),
+            Some(more) => Err(format!("--self-test stands alone, without {more}")),
+        };
+    }
+    while let Some(name) = given.next() {
+        if name == "--skip-small" {
+            arguments.skip_small = true;
+            continue;
+        }
+        let value = given.next().ok_or(format!("{name} needs a value"))?;
+        set(&mut arguments, &name, &value)?;
+    }
+    if arguments.seeds.is_empty() {
+        arguments.seeds.push(1);
+    }
+    Ok(arguments)
+}
+
+/// Sets the value of an argument.
+fn set(arguments: &mut Arguments, name: &str, value: &str) -> Result<(), String> {
+    let number = || {
+        let number = value.parse::<u64>();
+        number.map_err(|_| format!("{name} needs a number, not {value}"))
+    };
+    match name {
+        "--bench" => arguments.bench = Some(PathBuf::from(value)),
+        "--seed" => arguments.seeds.push(number()?),
+        "--valid" => arguments.valid = number()?,
+        "--damaged" => arguments.damaged = number()?,
+        "--tables" => arguments.tables = number()?,
+        "--members" => arguments.members = number()?,
+        _ => return Err(format!("{name} is unknown")),
+    }
+    Ok(())
+}
+
+#[cfg(test)]
+mod tests {
+    use super::*;
+
+    fn parsed(line: &str) -> Result<Arguments, String> {
+        parse(line.split_whitespace().map(str::to_string))
+    }
+
+    #[test]
+    fn the_default_is_seed_1() {
+        let expected = Arguments {
+            seeds: vec![1],
+            ..Arguments::default()
+        };
+        assert_eq!(parsed(""), Ok(expected));
+    }
+
+    #[test]
+    fn values_are_taken() {
+        let line =
+            "--bench x --seed 5 --valid 1 --seed 6 --damaged 2 --tables 3 --members 4 --skip-small";
+        let expected = Arguments {
+            self_test: false,
+            bench: Some(PathBuf::from("x")),
+            seeds: vec![5, 6],
+            valid: 1,
+            damaged: 2,
+            tables: 3,
+            members: 4,
+            skip_small: true,
+        };
+        assert_eq!(parsed(line), Ok(expected));
+    }
+
+    #[test]
+    fn wrong_arguments_are_named() {
+        for line in ["--seed", "--seed x", "--more 1", "--self-test --seed 1"] {
+            assert!(parsed(line).is_err(), "{line}");
+        }
+        assert!(parsed("--self-test").is_ok_and(|arguments| arguments.self_test));
+    }
+}

@@ -1,0 +1,21 @@
+//! Matches the proved bench and its members with the reference, which was written from document 01 alone.
+//!
+//! Each comparison takes the implementation under test as an argument, so that a wrong one can be passed to show that
+//! it is found.
+
+pub mod arguments;
+pub mod damage;
+pub mod demands;
+pub mod generate;
+pub mod members;
+pub mod outcome;
+pub mod plants;
+pub mod program;
+pub mod proved;
+pub mod random;
+pub mod small;
+pub mod summary;
+pub mod tables;
+pub mod texts;
+pub mod whole;
+pub mod wrong;

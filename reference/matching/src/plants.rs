@@ -1,0 +1,325 @@
+//! The self-test: each planted difference has to be found, and the right implementation has to pass.
+
+use reference::demand3::message_limit;
+use reference::member::Member;
+use reference::report::answer;
+use reference::run::{Run, NONE};
+use reference::schedule::Schedule;
+
+use crate::members::{self, Machine};
+use crate::outcome::{share, Outcome};
+use crate::random::Random;
+use crate::summary::Summary;
+use crate::tables::{self, by_reference, Simulate};
+use crate::texts::{self, Program};
+use crate::whole::check_small_count;
+use crate::wrong::{self, Change, Hear, Wrong, RIGHT, TURNS};
+use crate::{demands, generate, small};
+
+/// The seed and the counts of the self-test.
+const SEED: u64 = 1;
+const VALID: u64 = 870;
+const DAMAGED: u64 = 1_360;
+const STEP: usize = 97;
+const TABLES: u64 = 14_000;
+const MEMBERS: u64 = 70_000;
+
+/// A planted difference: the part of the matching, its name, and what that part then finds.
+pub struct Plant {
+    pub part: &'static str,
+    pub name: &'static str,
+    pub outcome: Outcome,
+    /// The sum from which the exit code comes.
+    pub summary: Summary,
+}
+
+impl Plant {
+    /// A plant in a part that has to meet these refusal numbers.
+    fn new(part: &'static str, name: &'static str, outcome: Outcome, numbers: &[u8]) -> Plant {
+        let mut summary = Summary::default();
+        summary.add(part, &outcome, numbers);
+        Plant {
+            part,
+            name,
+            outcome,
+            summary,
+        }
+    }
+
+    /// Whether the difference was found: it is counted, shown in full, and the exit code would be 1.
+    pub fn found(&self) -> bool {
+        let counted = self.outcome.differ + self.outcome.broken != 0;
+        counted && !self.outcome.differences.is_empty() && self.summary.exit_code() == 1
+    }
+
+    fn print(&self, verdict: &str) {
+        let (part, name, outcome) = (self.part, self.name, &self.outcome);
+        let what = match outcome.compared {
+            0 => format!("{} of {} runs", outcome.broken, outcome.demands),
+            compared => format!("{} of {compared} answers", outcome.differ),
+        };
+        println!("{verdict} {part}: {name}: {what} differ");
+    }
+}
+
+/// Runs the self-test, prints a line for each plant, and gives the exit code.
+pub fn self_test() -> u8 {
+    let mut right = true;
+    let mut verdict = |passes: bool, word: &'static str| {
+        right &= passes;
+        if passes {
+            word
+        } else {
+            "FAILED"
+        }
+    };
+    for control in controls() {
+        control.print(verdict(control.summary.exit_code() == 0, "passes"));
+    }
+    for plant in plants() {
+        plant.print(verdict(plant.found(), "found"));
+    }
+    for plant in faults() {
+        plant.print(verdict(plant.summary.exit_code() == 1, "found"));
+    }
+    println!("self-test {}", if right { "passed" } else { "FAILED" });
+    u8::from(!right)
+}
+
+/// Each part with the right implementation.
+pub fn controls() -> Vec<Plant> {
+    const NAME: &str = "nothing planted";
+    let right = |text: &[u8]| Ok(answer(text));
+    vec![
+        valid(NAME, &right),
+        damaged(NAME, &right),
+        every_nth(NAME, &by_reference),
+        promised(NAME, Member::after, unchanged),
+        called(NAME, &by_reference),
+        machine(NAME, &RIGHT),
+    ]
+}
+
+/// All plants.
+pub fn plants() -> Vec<Plant> {
+    let mut plants = turns();
+    plants.extend(in_texts());
+    plants.extend(in_calls());
+    plants.extend(in_promises());
+    plants.extend(in_members());
+    plants
+}
+
+/// Faults other than differences: a refusal number that is never met, and a schedule left out.
+pub fn faults() -> Vec<Plant> {
+    let right = |text: &[u8]| Ok(answer(text));
+    let few = texts::compare_damaged(SEED, 3, &right);
+    let mut left_out = every_nth("schedules left out", &by_reference);
+    check_small_count(&mut left_out.summary, &left_out.outcome);
+    let name = "refusal numbers never met";
+    vec![
+        Plant::new("damaged texts", name, few, &texts::NUMBERS),
+        left_out,
+    ]
+}
+
+/// The wrong turns of document 01 in every part.
+fn turns() -> Vec<Plant> {
+    let of_turn = |(name, hear): (&'static str, Hear)| {
+        let machine_with_turn = Wrong { hear, ..RIGHT };
+        [
+            valid(name, &wrong::program_by(hear, unchanged)),
+            every_nth(name, &wrong::simulate_by(hear, unchanged)),
+            called(name, &wrong::simulate_by(hear, unchanged)),
+            machine(name, &machine_with_turn),
+        ]
+    };
+    TURNS.into_iter().flat_map(of_turn).collect()
+}
+
+fn in_texts() -> Vec<Plant> {
+    let right = Member::after;
+    vec![
+        valid("a report with one byte changed", &wrong::changed_byte),
+        valid(
+            "messages off by one at f = t",
+            &wrong::program_by(right, wrong::one_message_more),
+        ),
+        valid(
+            "a decision in the crash round",
+            &wrong::program_by(right, wrong::acts_in_crash_round),
+        ),
+        damaged(
+            "number 7 with a wrong line",
+            &wrong::refused_by(wrong::wrong_line),
+        ),
+        damaged(
+            "a refused line without its NUL",
+            &wrong::refused_by(wrong::without_nul),
+        ),
+        damaged(
+            "number 7 asked before the end of the text",
+            &wrong::refused_by(wrong::crashes_before_end),
+        ),
+        damaged("a text of 2,049 bytes read", &wrong::long_text),
+        damaged("CR LF taken for LF", &wrong::cr_lf),
+        damaged("no answer to an empty line 1", &wrong::fails),
+    ]
+}
+
+fn in_calls() -> Vec<Plant> {
+    let changed = |change| wrong::simulate_by(Member::after, change);
+    let more = changed(wrong::one_message_more);
+    let highest = changed(wrong::highest_first);
+    let acts = changed(wrong::acts_in_crash_round);
+    vec![
+        every_nth("a decision in the crash round", &acts),
+        every_nth("messages off by one at f = t", &more),
+        every_nth("first is the highest among equals", &highest),
+        called("messages off by one at f = t", &more),
+        called("first is the highest among equals", &highest),
+        called("a table changed on refusal 7", &wrong::table_on_refusal),
+        called("a rounds table that is too long", &wrong::long_table),
+        called("reaches above n let pass", &wrong::reach_above_n),
+        called("n and t taken as bytes", &wrong::sizes_as_bytes),
+    ]
+}
+
+fn in_promises() -> Vec<Plant> {
+    let right = Member::after;
+    vec![
+        promised("only zeros counted in round 1", TURNS[1].1, unchanged),
+        promised("one process decides otherwise", right, disagree),
+        promised("a 1 decided in spite of a vote 0", right, commit_all),
+        promised("round B completed undecided", right, late),
+        promised("one message above the bound", right, above_bound),
+        promised("decided in round 3 after a vote 0", right, slow_abort),
+        promised("decided in round 3 without a crash", right, slow_commit),
+    ]
+}
+
+fn in_members() -> Vec<Plant> {
+    let refused = |refused| Wrong { refused, ..RIGHT };
+    let own = |own: usize, n: usize| own.min(n);
+    let said = |said| match said {
+        Err(11) => Ok(0),
+        _ => said,
+    };
+    vec![
+        machine(
+            "a state changed on refusal 17",
+            &refused(wrong::round_grows),
+        ),
+        machine("13 asked before 12", &refused(wrong::length_first)),
+        machine("17 asked before 16", &refused(wrong::both_first)),
+        machine("own number n + 1 opened", &Wrong { own, ..RIGHT }),
+        machine("nothing said out of range", &Wrong { said, ..RIGHT }),
+    ]
+}
+
+fn valid(name: &'static str, program: Program) -> Plant {
+    let outcome = texts::compare_valid(SEED, VALID, program);
+    Plant::new("valid texts", name, outcome, &[])
+}
+
+fn damaged(name: &'static str, program: Program) -> Plant {
+    let outcome = texts::compare_damaged(SEED, DAMAGED, program);
+    Plant::new("damaged texts", name, outcome, &texts::NUMBERS)
+}
+
+fn every_nth(name: &'static str, simulate: Simulate) -> Plant {
+    let outcome = small::compare(STEP, simulate);
+    Plant::new("n = 4, t = 3", name, outcome, &[])
+}
+
+fn called(name: &'static str, simulate: Simulate) -> Plant {
+    let outcome = tables::compare(SEED, TABLES, simulate);
+    Plant::new("calls on tables", name, outcome, &tables::NUMBERS)
+}
+
+fn machine(name: &'static str, machine: &dyn Machine) -> Plant {
+    let outcome = members::compare(SEED, MEMBERS, machine);
+    Plant::new("calls to a member", name, outcome, &members::NUMBERS)
+}
+
+/// Demand 3 on runs that hear by a way and are changed at their end.
+fn promised(name: &'static str, hear: Hear, change: Change) -> Plant {
+    let outcome = share(VALID, 0, |outcome, case| {
+        let mut random = Random::of_case(SEED, 0, case);
+        let (_, schedule) = generate::of_case(&mut random, case);
+        let run = wrong::changed_run(&schedule, hear, change);
+        demands::check(outcome, case, &schedule, &run);
+    });
+    Plant::new("demand 3", name, outcome, &[])
+}
+
+fn unchanged(_: &Schedule, _: &mut Run) {}
+
+/// The last process that decided decides the other value.
+fn disagree(_: &Schedule, run: &mut Run) {
+    if let Some(decision) = run.decisions.iter_mut().rfind(|value| **value != NONE) {
+        *decision = 1 - *decision;
+    }
+}
+
+fn commit_all(_: &Schedule, run: &mut Run) {
+    for decision in run.decisions.iter_mut().filter(|value| **value == 0) {
+        *decision = 1;
+    }
+}
+
+/// Process n completes round B undecided where B is t + 1.
+fn late(schedule: &Schedule, run: &mut Run) {
+    if schedule.f() == schedule.t {
+        run.undecided[schedule.t] = 1 << (schedule.n - 1);
+    }
+}
+
+fn above_bound(schedule: &Schedule, run: &mut Run) {
+    if schedule.f() == schedule.t - 1 {
+        run.counts.messages = message_limit(schedule) + 1;
+    }
+}
+
+fn slow_abort(schedule: &Schedule, run: &mut Run) {
+    if schedule.has_vote_0() {
+        slow(run);
+    }
+}
+
+fn slow_commit(schedule: &Schedule, run: &mut Run) {
+    if schedule.f() == 0 {
+        slow(run);
+    }
+}
+
+/// The process that decided first decides in round 3.
+fn slow(run: &mut Run) {
+    run.rounds[run.counts.first as usize - 1] = 3;
+}
+
+#[cfg(test)]
+mod tests {
+    use super::*;
+
+    #[test]
+    fn the_right_implementation_passes() {
+        for control in controls() {
+            assert_eq!(control.summary.exit_code(), 0, "{}", control.part);
+        }
+    }
+
+    #[test]
+    fn each_plant_is_found() {
+        for plant in plants() {
+            assert!(plant.found(), "{}: {}", plant.part, plant.name);
+        }
+    }
+
+    #[test]
+    fn each_fault_is_found() {
+        for plant in faults() {
+            assert_eq!(plant.summary.exit_code(), 1, "{}", plant.name);
+        }
+    }
+}

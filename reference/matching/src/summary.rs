@@ -1,0 +1,94 @@
+//! The sum of all parts and the exit code.
+
+use crate::outcome::{Kind, Outcome};
+
+/// What all parts found together.
+#[derive(Clone, Debug, Default)]
+pub struct Summary {
+    compared: u64,
+    differ: u64,
+    demands: u64,
+    broken: u64,
+    faults: Vec<String>,
+}
+
+impl Summary {
+    /// Adds the outcome of a part that has to meet these refusal numbers.
+    pub fn add(&mut self, part: &str, outcome: &Outcome, numbers: &[u8]) {
+        self.compared += outcome.compared;
+        self.differ += outcome.differ;
+        self.demands += outcome.demands;
+        self.broken += outcome.broken;
+        for number in outcome.never_met(numbers) {
+            self.fault(format!("{part}: refusal number {number} was never met"));
+        }
+    }
+
+    /// Adds a reason to fail other than a difference.
+    pub fn fault(&mut self, words: String) {
+        self.faults.push(words);
+    }
+
+    /// The exit code: 0 only if something was done, nothing differs, no promise is broken, and there is no fault.
+    pub fn exit_code(&self) -> u8 {
+        let done = self.compared + self.demands != 0;
+        let right = self.differ + self.broken == 0 && self.faults.is_empty();
+        u8::from(!(done && right))
+    }
+
+    /// The last lines: the faults, demand 3, and one line over everything. A run that breaks demand 3 counts as a
+    /// difference there.
+    pub fn print(&self) {
+        for fault in &self.faults {
+            println!("FAULT {fault}");
+        }
+        println!("{}", demand_words(self.demands, self.broken));
+        let (compared, differ) = (self.compared, self.differ + self.broken);
+        println!("compared {compared}, differ {differ}");
+    }
+}
+
+/// Prints what a part found: its heading, its kinds with their counts, the numbers met, the first differences.
+pub fn print_part(heading: &str, names: &[&str], outcome: &Outcome, numbers: &[u8]) {
+    let total = outcome
+        .kinds
+        .iter()
+        .fold(Kind::default(), |sum, kind| Kind {
+            accepted: sum.accepted + kind.accepted,
+            refused: sum.refused + kind.refused,
+        });
+    println!("{heading}: {}", words(&total));
+    for (name, kind) in names.iter().zip(&outcome.kinds) {
+        println!("  {name}: {}", words(kind));
+    }
+    if !numbers.is_empty() {
+        let met = |number: &u8| format!("{number} met {}", outcome.met[usize::from(*number)]);
+        let met: Vec<String> = numbers.iter().map(met).collect();
+        println!("  refusal numbers: {}", met.join(", "));
+    }
+    if outcome.demands != 0 {
+        println!("  {}", demand_words(outcome.demands, outcome.broken));
+    }
+    println!(
+        "  answers: {} equal, {} different",
+        outcome.compared - outcome.differ,
+        outcome.differ
+    );
+    for (case, difference) in &outcome.differences {
+        println!("DIFFERENCE in case {case}\n{difference}");
+    }
+}
+
+/// How many runs were held against demand 3, and how many break it.
+fn demand_words(demands: u64, broken: u64) -> String {
+    format!("demand 3: held against {demands} runs, broken by {broken}")
+}
+
+/// The counts of a kind in words.
+fn words(kind: &Kind) -> String {
+    match (kind.accepted, kind.refused) {
+        (accepted, 0) => format!("{accepted} accepted"),
+        (0, refused) => format!("{refused} refused"),
+        (accepted, refused) => format!("{refused} refused, {accepted} accepted"),
+    }
+}

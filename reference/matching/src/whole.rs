@@ -1,0 +1,118 @@
+//! The whole matching: all parts one after the other.
+
+use std::path::Path;
+
+use crate::arguments::Arguments;
+use crate::outcome::Outcome;
+use crate::proved::{simulate, Proved};
+use crate::summary::{print_part, Summary};
+use crate::{damage, generate, members, program, small, tables, texts};
+
+/// Does everything that the arguments ask for, prints what is found, and gives the sum.
+pub fn run(arguments: &Arguments) -> Summary {
+    let mut summary = Summary::default();
+    match &arguments.bench {
+        None => println!("texts: SKIPPED, for no --bench is given"),
+        Some(path) => {
+            for seed in &arguments.seeds {
+                match_texts(&mut summary, *seed, arguments, path);
+            }
+        }
+    }
+    if arguments.skip_small {
+        println!("all schedules with n = 4, t = 3: SKIPPED, as asked");
+    } else {
+        match_small(&mut summary);
+    }
+    for seed in &arguments.seeds {
+        match_tables(&mut summary, *seed, arguments.tables);
+        match_members(&mut summary, *seed, arguments.members);
+    }
+    summary
+}
+
+/// Whether a part is asked for; prints that it isn't.
+fn asked(part: &str, count: u64) -> bool {
+    if count == 0 {
+        println!("{part}: SKIPPED, as asked");
+    }
+    count != 0
+}
+
+/// Prints a part and adds it.
+fn add(summary: &mut Summary, heading: &str, names: &[&str], outcome: &Outcome, numbers: &[u8]) {
+    print_part(heading, names, outcome, numbers);
+    summary.add(heading, outcome, numbers);
+}
+
+/// The names of a table of kinds.
+fn names<'a, T>(kinds: &[(&'a str, T)]) -> Vec<&'a str> {
+    kinds.iter().map(|(name, _)| *name).collect()
+}
+
+fn match_texts(summary: &mut Summary, seed: u64, arguments: &Arguments, path: &Path) {
+    let program = |text: &[u8]| program::answer(path, text);
+    if asked("valid texts", arguments.valid) {
+        let outcome = texts::compare_valid(seed, arguments.valid, &program);
+        let (met, all) = (outcome.sizes.len(), generate::sizes().len());
+        let heading = format!("valid texts, seed {seed}, {met} of {all} sizes n and t");
+        add(
+            summary,
+            &heading,
+            &names(&generate::FAMILIES),
+            &outcome,
+            &[],
+        );
+    }
+    if asked("damaged texts", arguments.damaged) {
+        let outcome = texts::compare_damaged(seed, arguments.damaged, &program);
+        let heading = format!("damaged texts, seed {seed}");
+        let names = names(&damage::DAMAGES);
+        add(summary, &heading, &names, &outcome, &texts::NUMBERS);
+    }
+}
+
+fn match_small(summary: &mut Summary) {
+    let outcome = small::compare(1, &simulate);
+    let heading = "all schedules with n = 4, t = 3";
+    add(summary, heading, &[], &outcome, &[]);
+    check_small_count(summary, &outcome);
+}
+
+/// The schedules with n = 4 and t = 3 have to be all that there are.
+pub fn check_small_count(summary: &mut Summary, outcome: &Outcome) {
+    if outcome.compared != small::COUNT {
+        let (expected, found) = (small::COUNT, outcome.compared);
+        summary.fault(format!(
+            "{found} schedules with n = 4, t = 3, not {expected}"
+        ));
+    }
+}
+
+fn match_tables(summary: &mut Summary, seed: u64, count: u64) {
+    if asked("calls on tables", count) {
+        let outcome = tables::compare(seed, count, &simulate);
+        let heading = format!("calls on tables, seed {seed}");
+        add(
+            summary,
+            &heading,
+            &names(&tables::KINDS),
+            &outcome,
+            &tables::NUMBERS,
+        );
+    }
+}
+
+fn match_members(summary: &mut Summary, seed: u64, count: u64) {
+    if asked("calls to a member", count) {
+        let outcome = members::compare(seed, count, &Proved);
+        let heading = format!("calls to a member, seed {seed}");
+        add(
+            summary,
+            &heading,
+            &names(&members::KINDS),
+            &outcome,
+            &members::NUMBERS,
+        );
+    }
+}

@@ -1,0 +1,188 @@
+//! A limit to measure against: the run of a schedule with sets of processes held as words.
+//!
+//! It keeps no member and forms no row. Who is alive, who has estimate 0 and who decided are words; what a process hears is a word, and its
+//! rules are masks and counts of ones. It stops as soon as nobody speaks. It asks the same questions and answers the same as the call on
+//! tables; `speed` compares all answers with the reference's before it measures anything.
+
+use reference::run::{Counts, NONE};
+use reference::schedule::Schedule;
+
+/// A set of processes: bit i stands for the process at place i.
+type Set = u32;
+
+/// The set of the first n processes.
+fn first(n: usize) -> Set {
+    u32::MAX >> (32 - n)
+}
+
+/// The set without its lowest process, and the place of that one.
+fn take_lowest(set: &mut Set) -> Option<usize> {
+    if *set == 0 {
+        return None;
+    }
+    let place = set.trailing_zeros() as usize;
+    *set &= *set - 1;
+    Some(place)
+}
+
+/// The number of the first question whose answer is no, or 0.
+fn question(s: &Schedule, decisions: usize, rounds: usize) -> u8 {
+    if !(4..=32).contains(&s.n) {
+        return 1;
+    }
+    if !(3..s.n).contains(&s.t) {
+        return 2;
+    }
+    let lengths = [
+        s.votes.len(),
+        s.crashes.len(),
+        s.reaches.len(),
+        decisions,
+        rounds,
+    ];
+    if lengths != [s.n; 5] {
+        return 3;
+    }
+    let mut f = 0;
+    for place in 0..s.n {
+        let (crash, reach) = (s.crashes[place], s.reaches[place]);
+        if s.votes[place] > 1 {
+            return 4;
+        }
+        if usize::from(crash) > s.t + 1 {
+            return 5;
+        }
+        let allowed = if crash == 0 {
+            0
+        } else {
+            first(s.n) & !(1 << place)
+        };
+        if reach & !allowed != 0 {
+            return 6;
+        }
+        f += usize::from(crash != 0);
+    }
+    if f > s.t {
+        return 7;
+    }
+    0
+}
+
+/// What has come of a run so far.
+struct Run {
+    /// Processes that have not crashed.
+    alive: Set,
+    /// Processes with estimate 0.
+    zero: Set,
+    /// Processes that decided.
+    decided: Set,
+    /// Processes that decided in the round before: they say so now, and stop.
+    told: Set,
+    messages: usize,
+}
+
+/// Whether a process decides in round r that hears these estimates and no decided message.
+fn decides(s: &Schedule, r: usize, estimates: Set, zeros: Set) -> bool {
+    let count = estimates.count_ones() as usize;
+    (r == 2 && zeros == estimates)
+        || (r < s.t && s.n - count <= r - 2)
+        || (r == s.t && count > s.n - s.t)
+        || r == s.t + 1
+}
+
+impl Run {
+    fn opened(s: &Schedule) -> Run {
+        let votes = s.votes.iter().enumerate();
+        Run {
+            alive: first(s.n),
+            zero: votes.fold(0, |set, (place, &vote)| set | Set::from(1 - vote) << place),
+            decided: 0,
+            told: 0,
+            messages: 0,
+        }
+    }
+
+    /// Processes that say something.
+    fn speakers(&self) -> Set {
+        self.alive & (!self.decided | self.told)
+    }
+
+    /// One round, in which these processes crash.
+    fn play(&mut self, s: &Schedule, r: usize, crashing: Set, rounds: &mut [u8]) {
+        let speakers = self.speakers();
+        let completing = self.alive & !crashing;
+        self.messages += s.n * (speakers & completing).count_ones() as usize;
+        let mut senders = speakers & crashing;
+        while let Some(place) = take_lowest(&mut senders) {
+            self.messages += s.reaches[place].count_ones() as usize;
+        }
+        let (mut zero, mut decided) = (self.zero, 0);
+        let mut hearers = completing & !self.decided;
+        while let Some(place) = take_lowest(&mut hearers) {
+            let mut heard = speakers & completing;
+            let mut senders = speakers & crashing;
+            while let Some(sender) = take_lowest(&mut senders) {
+                heard |= (s.reaches[sender] >> place & 1) << sender;
+            }
+            let (estimates, told) = (heard & !self.told, heard & self.told);
+            let zeros = if told == 0 { estimates } else { told } & self.zero;
+            let missing = r == 1 && estimates != first(s.n);
+            if told != 0 && zeros == 0 {
+                zero &= !(1 << place);
+            } else if zeros != 0 || missing {
+                zero |= 1 << place;
+            }
+            if told != 0 || (r >= 2 && decides(s, r, estimates, zeros)) {
+                decided |= 1 << place;
+                rounds[place] = r as u8;
+            }
+        }
+        self.zero = zero;
+        self.told = decided;
+        self.decided |= decided;
+        self.alive = completing;
+    }
+
+    /// The decisions and the counts of the ended run.
+    fn answer(&self, s: &Schedule, decisions: &mut [u8], rounds: &[u8]) -> Counts {
+        let (mut first, mut last) = (0, 0);
+        for (place, decision) in decisions.iter_mut().enumerate() {
+            let round = rounds[place];
+            *decision = match round {
+                0 => NONE,
+                _ => 1 - (self.zero >> place & 1) as u8,
+            };
+            if round != 0 && (first == 0 || round < rounds[first - 1]) {
+                first = place + 1;
+            }
+            last = last.max(round);
+        }
+        Counts {
+            f: s.crashes.iter().filter(|&&crash| crash != 0).count(),
+            first,
+            last: usize::from(last),
+            messages: self.messages,
+        }
+    }
+}
+
+/// The call on tables.
+pub fn simulate(s: &Schedule, decisions: &mut [u8], rounds: &mut [u8]) -> Result<Counts, u8> {
+    let number = question(s, decisions.len(), rounds.len());
+    if number != 0 {
+        return Err(number);
+    }
+    let mut crashing = [0; 34];
+    for (place, &crash) in s.crashes.iter().enumerate() {
+        crashing[usize::from(crash)] |= 1 << place;
+    }
+    let mut run = Run::opened(s);
+    rounds.fill(0);
+    for r in 1..=s.t + 1 {
+        if run.speakers() == 0 {
+            break;
+        }
+        run.play(s, r, crashing[r], rounds);
+    }
+    Ok(run.answer(s, decisions, rounds))
+}

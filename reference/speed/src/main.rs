@@ -1,0 +1,56 @@
+//! How fast the proved simulator and member are: against the reference, and against a limit.
+//!
+//! `speed` compares the limit's answers with the reference's, then measures all in one run on the same schedules. `speed --check` only
+//! compares. docs/PERFORMANCE.md says how to read what is printed.
+
+mod limit;
+mod measure;
+mod schedules;
+mod tables;
+
+use std::process::ExitCode;
+
+use matching::small;
+use matching::tables::compare;
+
+/// How many random calls the limit is compared on, accepted and refused ones.
+const CALLS: u64 = 200_000;
+
+/// Every so many of the schedules with n = 4 and t = 3 are compared too.
+const STEP: usize = 7;
+
+/// Compares the limit with the reference; true if they never differ.
+fn limit_is_right() -> bool {
+    let parts = [
+        compare(1, CALLS, &limit::simulate),
+        small::compare(STEP, &limit::simulate),
+    ];
+    let compared: u64 = parts.iter().map(|part| part.compared).sum();
+    let differ: u64 = parts.iter().map(|part| part.differ).sum();
+    for (case, words) in parts.iter().flat_map(|part| &part.differences) {
+        println!("case {case}: {words}");
+    }
+    println!("the limit against the reference: compared {compared}, differ {differ}");
+    differ == 0
+}
+
+fn main() -> ExitCode {
+    let arguments: Vec<String> = std::env::args().skip(1).collect();
+    let only_check = match arguments.as_slice() {
+        [] => false,
+        [flag] if flag == "--check" => true,
+        _ => {
+            eprintln!("usage: speed [--check]");
+            return ExitCode::from(2);
+        }
+    };
+    if !limit_is_right() {
+        return ExitCode::FAILURE;
+    }
+    if !only_check {
+        tables::by_size();
+        tables::by_crashes_borne();
+        tables::by_row();
+    }
+    ExitCode::SUCCESS
+}

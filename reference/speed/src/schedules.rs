@@ -1,0 +1,46 @@
+//! The schedules and rows that are measured.
+
+use std::cell::RefCell;
+
+use matching::generate::FAMILIES;
+use matching::random::Random;
+use reference::member::Member;
+use reference::run::play;
+use reference::schedule::Schedule;
+
+/// How many schedules there are of each size.
+pub const COUNT: usize = 4_096;
+
+/// Accepted schedules of n processes over the full spread: the families of the matching in turn, each with any t from 3 to n - 1.
+pub fn spread(n: usize) -> Vec<Schedule> {
+    let of_case = |case: usize| {
+        let mut random = Random::of_case(1, n as u64, case as u64);
+        let t = random.within(3..=n - 1);
+        let (_, make) = FAMILIES[case % FAMILIES.len()];
+        make(&mut random, n, t)
+    };
+    (0..COUNT).map(of_case).collect()
+}
+
+/// A member that is about to hear a row, and the row.
+pub struct Hearing {
+    pub member: Member,
+    pub row: Vec<u8>,
+}
+
+/// Every hearing in the runs of these schedules.
+pub fn hearings(schedules: &[Schedule]) -> Vec<Hearing> {
+    let hearings = RefCell::new(Vec::new());
+    for schedule in schedules {
+        play(schedule, |member, row| {
+            hearings.borrow_mut().push(Hearing {
+                member: *member,
+                row: row.to_vec(),
+            });
+            member
+                .hear(row)
+                .expect("a member of a bench run refuses no row")
+        });
+    }
+    hearings.into_inner()
+}

@@ -1,0 +1,103 @@
+//! What is measured, a table each.
+
+use std::hint::black_box;
+
+use matching::proved;
+use matching::tables::{by_reference, Simulate};
+use reference::schedule::Schedule;
+
+use crate::limit;
+use crate::measure::fastest;
+use crate::schedules::{hearings, spread};
+
+/// The sizes that are measured.
+const SIZES: [usize; 4] = [4, 8, 16, 32];
+
+/// Runs every schedule once.
+fn run_all(schedules: &[Schedule], simulate: Simulate) {
+    let (mut decisions, mut rounds) = ([0; 32], [0; 32]);
+    for schedule in schedules {
+        let n = schedule.n;
+        let answer = simulate(black_box(schedule), &mut decisions[..n], &mut rounds[..n]);
+        black_box(answer).expect("the schedule is accepted");
+    }
+}
+
+/// The nanoseconds for a run: proved, reference, limit.
+fn times(schedules: &[Schedule]) -> [f64; 3] {
+    fastest(
+        schedules.len(),
+        [
+            &mut || run_all(schedules, &proved::simulate),
+            &mut || run_all(schedules, &by_reference),
+            &mut || run_all(schedules, &limit::simulate),
+        ],
+    )
+}
+
+/// The three programs over the full spread of schedules of each size.
+pub fn by_size() {
+    println!();
+    println!("a run, over the full spread of schedules (ns)");
+    println!("   n   proved  reference    limit  reference/proved  proved/limit  proved runs/s  proved, from n/2");
+    let mut before = None;
+    for n in SIZES {
+        let [proved, reference, limit] = times(&spread(n));
+        let growth = before.map_or(String::new(), |half: f64| format!("{:.2}", proved / half));
+        println!(
+            "{n:4} {proved:8.0} {reference:10.0} {limit:8.0} {:17.2} {:13.2} {:14.0} {growth:>17}",
+            reference / proved,
+            proved / limit,
+            1e9 / proved,
+        );
+        before = Some(proved);
+    }
+}
+
+/// A cluster of 32 that stops after round 3, set up to bear more and more crashes: more rounds are allowed, and none of them is played.
+pub fn by_crashes_borne() {
+    println!();
+    println!("a run of n = 32, no crash: every process has stopped after round 3 (ns)");
+    println!("   t   proved  reference    limit  proved, to t = 3");
+    let mut first = None;
+    for t in [3, 7, 15, 31] {
+        let [proved, reference, limit] = times(&vec![Schedule::quiet(32, t); 1_024]);
+        let growth = proved / *first.get_or_insert(proved);
+        println!("{t:4} {proved:8.0} {reference:10.0} {limit:8.0} {growth:17.2}");
+    }
+}
+
+/// The member's `hear`, on every row that is heard in the runs of a part of those schedules.
+pub fn by_row() {
+    println!();
+    println!("a row heard by a member (ns)");
+    println!("   n   proved  reference  reference/proved     rows");
+    for n in SIZES {
+        let hearings = hearings(&spread(n)[..256]);
+        let [proved, reference] = fastest(
+            hearings.len(),
+            [
+                &mut || {
+                    for hearing in &hearings {
+                        let bytes = hearing.member.to_bytes();
+                        let mut member = fcwfa::Member { bytes };
+                        black_box(member.hear(black_box(&hearing.row)))
+                            .expect("a row that is heard");
+                        black_box(member);
+                    }
+                },
+                &mut || {
+                    for hearing in &hearings {
+                        let heard = hearing.member.hear(black_box(&hearing.row));
+                        black_box(heard).expect("a row that is heard");
+                    }
+                },
+            ],
+        );
+        println!(
+            "{n:4} {proved:8.1} {reference:10.1} {:17.2} {:8}",
+            reference / proved,
+            hearings.len()
+        );
+    }
+}

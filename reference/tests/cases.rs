@@ -1,0 +1,145 @@
+//! The marked schedules of document 01, A to K, and its five refused ones.
+
+use reference::questions::Refusal;
+use reference::report::answer;
+use reference::run::{run, Run, NONE};
+use reference::schedule::{bit, Schedule};
+use reference::text::{read, write};
+
+/// A crash: the process, its crash round, and its reach in letters.
+type Crash = (usize, u8, &'static str);
+
+/// A schedule with n = 4 and t = 3, all votes 1.
+fn schedule(crashes: &[Crash]) -> Schedule {
+    let mut schedule = Schedule::quiet(4, 3);
+    for (i, round, letters) in crashes {
+        schedule.crashes[i - 1] = *round;
+        let named = (1..)
+            .zip(letters.chars())
+            .filter(|(_, letter)| *letter == '1');
+        schedule.reaches[i - 1] = named.map(|(j, _)| bit(j)).sum();
+    }
+    schedule
+}
+
+/// The answers as document 01 writes them: decision@round or - for each process.
+fn answers(run: &Run) -> String {
+    let one = |(decision, round): (&u8, &u8)| match *decision {
+        NONE => {
+            assert_eq!(*round, 0);
+            "-".to_string()
+        }
+        value => format!("{value}@{round}"),
+    };
+    let all: Vec<String> = run.decisions.iter().zip(&run.rounds).map(one).collect();
+    all.join(" ")
+}
+
+/// Runs the schedule, from tables and from its text, and compares answers, f and messages.
+fn expect(schedule: &Schedule, expected: &str, f: u32, messages: u32) {
+    let run = run(schedule).expect("a marked schedule is accepted");
+    assert_eq!(answers(&run), expected);
+    assert_eq!((run.counts.f, run.counts.messages), (f, messages));
+    assert_eq!(read(&write(schedule)), Ok(schedule.clone()));
+    assert_eq!(reference::demand3::check(schedule, &run), Ok(()));
+}
+
+#[test]
+fn case_a_no_crash() {
+    expect(&schedule(&[]), "1@2 1@2 1@2 1@2", 0, 48);
+}
+
+#[test]
+fn case_b_process_1_votes_0() {
+    let mut schedule = schedule(&[]);
+    schedule.votes[0] = 0;
+    expect(&schedule, "0@2 0@2 0@2 0@2", 0, 48);
+}
+
+#[test]
+fn case_c() {
+    expect(&schedule(&[(1, 1, "0000")]), "- 0@2 0@2 0@2", 1, 36);
+}
+
+#[test]
+fn case_d() {
+    expect(&schedule(&[(1, 1, "0100")]), "- 0@3 0@3 0@3", 1, 49);
+}
+
+#[test]
+fn case_e() {
+    let crashes = [(1, 1, "0110"), (4, 2, "0100"), (2, 3, "0000")];
+    expect(&schedule(&crashes), "- - 1@4 -", 3, 31);
+}
+
+#[test]
+fn case_f() {
+    let crashes = [(1, 1, "0110"), (4, 2, "0100"), (2, 3, "0010")];
+    expect(&schedule(&crashes), "- - 0@3 -", 3, 32);
+}
+
+#[test]
+fn case_g() {
+    let crashes = [(1, 1, "0110"), (4, 2, "0100")];
+    expect(&schedule(&crashes), "- 0@3 0@3 -", 2, 39);
+}
+
+#[test]
+fn case_h() {
+    expect(&schedule(&[(1, 3, "0000")]), "1@2 1@2 1@2 1@2", 1, 44);
+}
+
+#[test]
+fn case_i() {
+    expect(&schedule(&[(1, 2, "0111")]), "- 1@2 1@2 1@2", 1, 43);
+}
+
+#[test]
+fn case_j() {
+    expect(&schedule(&[(1, 4, "0000")]), "1@2 1@2 1@2 1@2", 1, 48);
+}
+
+#[test]
+fn case_k() {
+    let crashes = [(1, 1, "0000"), (2, 1, "0000"), (3, 1, "0000")];
+    expect(&schedule(&crashes), "- - - 0@2", 3, 12);
+}
+
+#[test]
+fn case_d_report_byte_for_byte() {
+    let text = "n t\n4 3\nid vote crash reach\n1 1 1 0100\n2 1 0 0000\n3 1 0 0000\n4 1 0 0000\n";
+    let report =
+        "n t f first last messages\n4 3 1 2 3 49\nid decision round\n1 - 0\n2 0 3\n3 0 3\n4 0 3\n";
+    assert_eq!(write(&schedule(&[(1, 1, "0100")])), text.as_bytes());
+    assert_eq!(answer(text.as_bytes()), report.as_bytes());
+}
+
+#[test]
+fn n_3_with_a_vote_2_is_refused_by_1() {
+    let mut schedule = Schedule::quiet(3, 3);
+    schedule.votes[0] = 2;
+    assert_eq!(run(&schedule), Err(Refusal::Processes));
+}
+
+#[test]
+fn t_4_at_n_4_is_refused_by_2() {
+    assert_eq!(run(&Schedule::quiet(4, 4)), Err(Refusal::CrashLimit));
+}
+
+#[test]
+fn crash_round_5_is_refused_by_5_while_4_passes() {
+    let refused = run(&schedule(&[(1, 5, "0000")]));
+    assert_eq!(refused, Err(Refusal::CrashRound));
+    assert!(run(&schedule(&[(1, 4, "0000")])).is_ok());
+}
+
+#[test]
+fn a_reach_of_its_own_process_is_refused_by_6() {
+    assert_eq!(run(&schedule(&[(1, 1, "1000")])), Err(Refusal::Reach));
+}
+
+#[test]
+fn four_crashes_are_refused_by_7() {
+    let crashes = [1, 2, 3, 4].map(|i| (i, 1, "0000"));
+    assert_eq!(run(&schedule(&crashes)), Err(Refusal::TooManyCrashes));
+}
