@@ -73,7 +73,7 @@ fn round_b(schedule: &Schedule, run: &Run) -> Result<(), String> {
 
 /// The messages are at most n * n * min(B + 1, t + 1).
 fn message_bound(schedule: &Schedule, run: &Run) -> Result<(), String> {
-    let (sent, limit) = (run.counts.messages as usize, message_limit(schedule));
+    let (sent, limit) = (run.counts.messages, message_limit(schedule));
     promise(sent <= limit, || {
         format!("message bound: {sent} messages, at most {limit} promised")
     })

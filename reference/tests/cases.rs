@@ -36,7 +36,7 @@ fn answers(run: &Run) -> String {
 }
 
 /// Runs the schedule, from tables and from its text, and compares answers, f and messages.
-fn expect(schedule: &Schedule, expected: &str, f: u32, messages: u32) {
+fn expect(schedule: &Schedule, expected: &str, f: usize, messages: usize) {
     let run = run(schedule).expect("a marked schedule is accepted");
     assert_eq!(answers(&run), expected);
     assert_eq!((run.counts.f, run.counts.messages), (f, messages));

@@ -295,7 +295,7 @@ fn slow_commit(schedule: &Schedule, run: &mut Run) {
 
 /// The process that decided first decides in round 3.
 fn slow(run: &mut Run) {
-    run.rounds[run.counts.first as usize - 1] = 3;
+    run.rounds[run.counts.first - 1] = 3;
 }
 
 #[cfg(test)]

@@ -143,7 +143,7 @@ pub fn acts_in_crash_round(schedule: &Schedule, run: &mut Run) {
 
 /// Among equals the highest number is first.
 pub fn highest_first(_: &Schedule, run: &mut Run) {
-    let first = run.rounds[run.counts.first as usize - 1];
+    let first = run.rounds[run.counts.first - 1];
     let highest = run.rounds.iter().rposition(|round| *round == first);
     run.counts.first = highest.map_or(0, |place| place + 1);
 }
