@@ -106,7 +106,7 @@ fn step(members: [Member; 4], place: usize, round: usize) -> Member {
         return m;
     }
     let row = row_of(members, place, round);
-    let answer = member::hear(m, &row);
+    let answer = hearing::hear(m, &row);
     let Heard::Moved(next) = answer else {
         show(m, b"-", round, m);
         return m;
@@ -216,7 +216,7 @@ fn refused_rows() {
 }
 
 fn show_hear(m: Member, row: &[u8]) {
-    let answer = member::hear(m, row);
+    let answer = hearing::hear(m, row);
     let Heard::Refused(number, _) = answer else {
         show_number(b"hear", 0);
         return;

@@ -54,7 +54,7 @@ pub extern "C" fn fcwfa_hear(state: &mut [u8; 6], row: &[u8]) -> u8
     ensures number { λ r. ⌜ r ≡ hearQuestion largest (stateIn (now (state .entry))) (now (row .entry)) ⌝ }
     ensures state_after { λ r. ⌜ now (state .exit) ≡ placeAfter (hearQuestion largest (stateIn (now (state .entry))) (now (row .entry))) (stateBytes (hears (stateIn (now (state .entry))) (now (row .entry)))) (now (state .entry)) ⌝ }
 {
-    let answer = member::hear(bytes::state_in(*state), row);
+    let answer = hearing::hear(bytes::state_in(*state), row);
     match answer {
         Heard::Moved(m) => {
             *state = bytes::state_bytes(m);

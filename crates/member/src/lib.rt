@@ -1,16 +1,18 @@
 // One process of FCWFA (document 01, "One member"): what a machine of the cluster runs.
 //
-// `open` gives the state of a new member, `say` the code that it sends in the round to come, and
-// `hear` the state after a row of codes. The state goes in and comes back by value. Each of the three
-// takes anything and answers what specs/Answers.antt gives, refusals too; none has a `requires`.
+// `open` gives the state of a new member and `say` the code that it sends in the round to come;
+// `is_stopped` tells whether it has stopped. The state goes in and comes back by value. Each takes
+// anything, and none has a `requires`: `open` and `say` answer what specs/Answers.antt gives, refusals too.
+//
+// What a row of codes makes of a member is `hear` of the crate `hearing`. Its types stand here, since the
+// definitions in specs/ name them.
 mod limits;
-mod row;
-mod rules;
 mod state;
 
+pub use state::is_stopped;
 ghost use mathlib.Core.Path.{_≡_};
 ghost use Rattle.member.specs.Opening.{largest};
-ghost use Rattle.member.specs.Answers.{openedIs, openAnswer, saidIs, sayAnswer, heardIs, hearAnswer};
+ghost use Rattle.member.specs.Answers.{openedIs, openAnswer, saidIs, sayAnswer};
 
 // The state of a member. `id` is its own number, `round` the round to play next, and `decided` the
 // round in which it decided, 0 while it has not. Once it has, `estimate` is the decision.
@@ -86,25 +88,4 @@ pub fn say(m: Member) -> Said
         return Said::Refused(11);
     }
     Said::Code(state::code(m))
-}
-
-pub fn hear(m: Member, row: &[u8]) -> Heard
-    ensures answered { λ r. ⌜ heardIs r ≡ hearAnswer largest m (now (row .entry)) ⌝ }
-{
-    if !state::is_in_range(m) {
-        return Heard::Refused(11, m);
-    }
-    if state::is_stopped(m) {
-        return Heard::Refused(12, m);
-    }
-    if row.len() != m.n as usize {
-        return Heard::Refused(13, m);
-    }
-    let place = (m.id - 1) as usize;
-    let counts = row::tally(row);
-    let question = row::row_question(m, row[place], counts);
-    if question != 0 {
-        return Heard::Refused(question, m);
-    }
-    Heard::Moved(rules::next(m, counts))
 }

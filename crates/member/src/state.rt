@@ -40,6 +40,7 @@ pub fn is_in_range(m: Member) -> bool
     is_in_limits(m) && is_placed(m)
 }
 
+// Whether a state, in range or not, is that of a stopped member.
 pub fn is_stopped(m: Member) -> bool
     ensures tested { λ r. ⌜ r ≡ stopped m ⌝ }
 {

@@ -1,9 +1,9 @@
 // Runs a schedule given in tables to its end (document 01, "Who hears whom").
 //
 // `simulate` asks questions 1 to 7, opens a member for each process, plays the rounds, fills the two
-// answer tables and answers the counts. The members are run through the public `open`, `say` and
-// `hear` of the crate `member`, the code that a machine of the cluster runs; that none of these calls is
-// refused in a run is proved. It takes anything, and has no `requires`.
+// answer tables and answers the counts. The members are run through the public `open` and `say` of the
+// crate `member` and `hear` of the crate `hearing`, the code that a machine of the cluster runs; that none
+// of these calls is refused in a run is proved. It takes anything, and has no `requires`.
 mod answers;
 mod members;
 mod play;

@@ -78,7 +78,7 @@ pub fn state_heard(m: Member, row: &[u8]) -> Member
     requires listens { ⌜ hearQuestion largest m (now row) ≡ 0 ⌝ }
     ensures heard { λ r. ⌜ r ≡ hears m (now (row .entry)) ⌝ }
 {
-    let answer = member::hear(m, row);
+    let answer = hearing::hear(m, row);
     match answer {
         Heard::Moved(next) => next,
         Heard::Refused(_, given) => given,

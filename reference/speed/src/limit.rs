@@ -178,11 +178,11 @@ pub fn simulate(s: &Schedule, decisions: &mut [u8], rounds: &mut [u8]) -> Result
     }
     let mut run = Run::opened(s);
     rounds.fill(0);
-    for r in 1..=s.t + 1 {
+    for (r, &crashing) in crashing.iter().enumerate().take(s.t + 2).skip(1) {
         if run.speakers() == 0 {
             break;
         }
-        run.play(s, r, crashing[r], rounds);
+        run.play(s, r, crashing, rounds);
     }
     Ok(run.answer(s, decisions, rounds))
 }

@@ -1,0 +1,38 @@
+// Hearing (document 01, "One member"): what a row of codes makes of a member.
+//
+// `hear` gives the state after the row. It takes anything and answers what the definitions of the crate
+// `member` give, refusals too; it has no `requires`.
+mod row;
+mod rules;
+
+ghost use mathlib.Core.Path.{_≡_};
+ghost use Rattle.member.specs.Opening.{largest};
+ghost use Rattle.member.specs.Answers.{heardIs, hearAnswer};
+use member::Heard;
+use member::Member;
+use member::Said;
+use member::is_stopped;
+use member::say;
+
+// A saying is refused exactly where the state is not in range, which is the first question of hearing
+// too; and what is said must stand in the own place.
+pub fn hear(m: Member, row: &[u8]) -> Heard
+    ensures answered { λ r. ⌜ heardIs r ≡ hearAnswer largest m (now (row .entry)) ⌝ }
+{
+    let Said::Code(says) = say(m) else {
+        return Heard::Refused(11, m);
+    };
+    if is_stopped(m) {
+        return Heard::Refused(12, m);
+    }
+    if row.len() != m.n as usize {
+        return Heard::Refused(13, m);
+    }
+    let place = (m.id - 1) as usize;
+    let counts = row::tally(row);
+    let question = row::row_question(m.round, says, row[place], counts);
+    if question != 0 {
+        return Heard::Refused(question, m);
+    }
+    Heard::Moved(rules::next(m, counts))
+}
