@@ -5,7 +5,7 @@ use native.Mathlib.Omega.{arith}
 use borrow.Author.Tests.{ne-eqb}
 use Rattle.laws.specs.Answer.{ask, accepted, answer}
 use Rattle.member.specs.Opening.{largest}
-use Rattle.member.specs.State.{inRange}
+use Rattle.member.specs.State.{inRange, stopped}
 use Rattle.member.specs.Questions.{hearQuestion}
 use Rattle.member.specs.Answers.{saidIs, sayAnswer, hearAnswer}
 use Rattle.member.proofs.Range.{in-range-ranged}
@@ -40,7 +40,9 @@ ranges c = say-in-range largest _ (said c)
 
 returns-2 : tie.Need-returns-2
 unfolding hearAnswer hearQuestion ask answer
-returns-2 c = simp (ranges (c .before .before .before), ← c .before .is-stopped .ensures, c .if1 .taken)
+returns-2 c =
+    let stops : stopped (c .before .before .before .before .before .before .before .args .m) ≡ true = sym (c .before .is-stopped .ensures) ∙ c .if1 .taken in
+    simp (ranges (c .before .before .before), stops)
 
 cast-if2 : tie.Need-cast-if2
 cast-if2 c = search needs
