@@ -18,7 +18,7 @@ use Rattle.fields.specs.Fields.{space}
 use Rattle.fields.proofs.Digits.{same-number}
 use Rattle.run.specs.Report.{Report}
 use Rattle.text.specs.Written.{field, eachLine}
-use Rattle.text.specs.Output.{countsHeading, decisionsHeading, decisionLetter, countsLine, decisionLine, decisionLines, reportText}
+use Rattle.text.specs.Output.{countsHeading, decisionsHeading, refusedHeading, decisionLetter, countsLine, decisionLine, decisionLines, reportText, refusalText}
 use Rattle.text.specs.Facts.{SaysTheSame}
 
 -- The letter of a decision, `-` for none, which comes before all digits, or the decision's digit, is that of no other decision.
@@ -130,3 +130,16 @@ one-reading n t a m u b e =
       decisions = λ i l. each i l .0;
       rounds = λ i l. each i l .1;
     }
+
+-- A refusal is no report: already their first letters differ. And it has one reading, too.
+pub no-report : (number k : ℕ) (line : List ℕ) (m u : ℕ) (b : Report) → refusalText number k line ≡ reportText m u b → ⊥
+unfolding refusalText reportText
+no-report number k line m u b e =
+    let letters : _≡_ {A = ℕ} 114 110 = ap (λ (xs : List ℕ). getD xs 0 0) e in
+    absurd (omega arith)
+
+pub one-refusal : (number k : ℕ) (line : List ℕ) (m j : ℕ) (other : List ℕ) → refusalText number k line ≡ refusalText m j other → (number ≡ m) × (k ≡ j)
+unfolding refusalText
+one-refusal number k line m j other e =
+    let numbers = same-field _ (omega arith) number m _ _ (same-rest refusedHeading _ _ e) in
+    (numbers .0, same-field _ (omega arith) k j _ _ (numbers .1) .0)

@@ -15,7 +15,7 @@ use Rattle.run.specs.Report.{Report, report}
 use Rattle.run.specs.Given.{GivenDemand3}
 use Rattle.text.specs.Written.{textOf}
 use Rattle.text.specs.Reading.{longest, sizesIn, textAnswer}
-use Rattle.text.specs.Output.{reportText, outputOf}
+use Rattle.text.specs.Output.{reportText, refusalText, outputOf}
 
 -- the bytes print what is given for the schedule, and what is given keeps demand 3
 pub record PrintsDemand3 (s : Schedule) (bytes : List ℕ) : Type 0 where
@@ -51,6 +51,11 @@ pub record TextPromises (limit most : ℕ) : Type 0 where
   -- and whatever report is read in what is printed for it, it says the same as that of the run of its schedule
   pub says : (text : List ℕ) (s : Schedule) → textAnswer text limit most ≡ accepted s
       → (m u : ℕ) (b : Report) → outputOf text limit most ≡ reportText m u b → SaysTheSame (s .n) (s .t) (report fcwfa s) m u b
+  -- what is printed for a refused text is no report, and whatever number and line's number are read in it are those of the refusal
+  pub told-apart : (text : List ℕ) (number k : ℕ) → textAnswer text limit most ≡ refused number k
+      → (m u : ℕ) (b : Report) → outputOf text limit most ≡ reportText m u b → ⊥
+  pub refusal-says : (text : List ℕ) (number k : ℕ) → textAnswer text limit most ≡ refused number k
+      → (m j : ℕ) (line : List ℕ) → outputOf text limit most ≡ refusalText m j line → (number ≡ m) × (k ≡ j)
 
 -- The text of an accepted schedule of at most 32 processes has at most 2,048 bytes, so it is read back. Proved in proofs/Theorem.antt:
 -- `all-read-back : AllReadBack`.
