@@ -15,12 +15,13 @@ use Rattle.laws.specs.Answer.{ask, Answer, accepted, refused, answer, andNext, 
 use Rattle.laws.proofs.Answer.{passed, valueOr, not-accepted, and-next-passes, and-next-refused, and-next-assoc, and-next-accepted, and-next-either}
 use Rattle.laws.proofs.Test.{and-left, and-right, within-high}
 use Rattle.laws.proofs.Filled.{filled-take}
+use Rattle.schedule.specs.Questions.{tablesOf}
 use Rattle.text.specs.Forms.{Sizes}
 use Rattle.text.specs.Reading.{onLine, sizesIn, entryIn, scheduleIn, entryQuestions, textQuestions}
 use Rattle.text.proofs.Accepted.{line-passed}
 use Rattle.reader.specs.declared.Lines.{Lines}
 use Rattle.reader.specs.declared.Lines.the-variants.{Passed}
-use Rattle.reader.specs.Answers.{tablesOf, givenOr, filled, readQuestions, readAnswer, tableAfter}
+use Rattle.reader.specs.Answers.{givenOr, filled, readQuestions, readAnswer, tableAfter}
 use Rattle.reader.specs.Parts.{Table, EntriesRead, headQuestions, tailQuestions, restQuestions}
 
 -- What is given, and what is kept.

@@ -1,10 +1,9 @@
 -- What `read` answers, and what the three lent tables hold after the call.
 use Prim.Native.Nat.{ℕ}
 use mathlib.Core.List.{List, _++_}
-use mathlib.Core.Bool.{Bool, _&&_}
 use lib.ListN.{length, drop}
-use lib.Dec.{eqb}
 use Rattle.laws.specs.Answer.{ask, Answer, accepted, refused, andNext}
+use Rattle.schedule.specs.Questions.{tablesOf}
 use Rattle.text.specs.Forms.{Sizes}
 use Rattle.text.specs.Reading.{onLine, sizesIn, scheduleIn, textQuestions}
 use Rattle.reader.specs.declared.Reading.{Reading}
@@ -14,10 +13,6 @@ use Rattle.reader.specs.declared.Reading.the-variants.{Read, Refused}
 abbrev pub readingIs : Reading → Answer Sizes ℕ
 readingIs (Read n t) = accepted (record { n = n; t = t })
 readingIs (Refused number line) = refused number line
-
--- "three tables of 32?"
-unfoldable pub tablesOf : ℕ → List ℕ → List ℕ → List ℕ → Bool
-tablesOf size votes crashes reaches = eqb (length votes) size && (eqb (length crashes) size && eqb (length reaches) size)
 
 -- what is given if every question is answered by yes, or else what is kept
 abbrev pub givenOr : {A B : Type 0} → Answer (Unit {0}) B → A → A → A

@@ -4,7 +4,7 @@ ghost use mathlib.Core.List.{List, _++_};
 ghost use Prim.Native.Nat.{ℕ, _≤_};
 ghost use lib.ListN.{length, take, drop};
 ghost use Rattle.member.specs.Opening.{largest};
-ghost use Rattle.reader.specs.Answers.{tablesOf};
+ghost use Rattle.schedule.specs.Questions.{tablesOf};
 
 // How many entries each table has.
 const SIZE: usize = 32;

@@ -17,7 +17,7 @@ use Rattle.laws.proofs.Lists.{length-tabulate, getD-tabulate}
 use Rattle.lines.specs.Lines.{lineOf}
 use Rattle.member.specs.Opening.{largest}
 use Rattle.schedule.specs.Schedule.{Schedule, scheduleOf}
-use Rattle.schedule.specs.Questions.{question}
+use Rattle.schedule.specs.Questions.{tablesOf, question}
 use Rattle.schedule.proofs.Accepted.{question-accepted}
 use Rattle.run.specs.Protocol.{fcwfa}
 use Rattle.run.specs.Report.{report}
@@ -27,7 +27,7 @@ use Rattle.text.specs.Reading.{longest, onLine, sizesIn, scheduleIn, textQuesti
 use Rattle.text.specs.Output.{reportText, refusalText, printed, outputOf}
 use Rattle.text.specs.Facts.{PrintsDemand3}
 use Rattle.text.proofs.Accepted as Text
-use Rattle.reader.specs.Answers.{tablesOf, givenOr, filled, readQuestions, readAnswer, tableAfter, votesAfter, crashesAfter, reachesAfter}
+use Rattle.reader.specs.Answers.{givenOr, filled, readQuestions, readAnswer, tableAfter, votesAfter, crashesAfter, reachesAfter}
 use Rattle.report.specs.declared.Output.{Output}
 use Rattle.report.specs.Bytes.{padded}
 use Rattle.report.specs.Answers.{outputIs, OutputKeepsDemand3}

@@ -11,7 +11,7 @@ use Rattle.laws.specs.Answer.{ask, andThen}
 use Rattle.laws.proofs.Test.{and-left, and-right, within-low, within-high, within-is}
 use Rattle.laws.proofs.Answer.{passed, and-then-passed, ask-each-passed, ask-each-passes}
 use Rattle.schedule.specs.Schedule.{Schedule, names, voteOf, crashOf, reachOf, crashCount}
-use Rattle.schedule.specs.Questions.{tablesLong, reachRight, entryQuestion, processQuestion, question, ProcessRules, Accepted}
+use Rattle.schedule.specs.Questions.{tablesOf, tablesLong, reachRight, entryQuestion, processQuestion, question, ProcessRules, Accepted}
 
 -- `not a || b` says that b holds where a does.
 implied : (a b : Bool) → not a || b ≡ true → a ≡ true → b ≡ true
@@ -66,7 +66,7 @@ module _ (s : Schedule) where
     process-rules-question r = rw (le-leb (voteOf s i) 1 (r .vote), le-leb (crashOf s i) (s .t + 1) (r .crash), rules-reach-right r)
 
   pub table-lengths : tablesLong s ≡ true → (length (s .votes) ≡ s .n) × (length (s .crashes) ≡ s .n) × (length (s .reaches) ≡ s .n)
-  unfolding tablesLong
+  unfolding tablesOf
   table-lengths e =
       let others = and-right (eqb (length (s .votes)) (s .n)) _ e in
       (eqb-true _ _ (and-left _ _ e), eqb-true _ _ (and-left _ _ others), eqb-true _ _ (and-right (eqb (length (s .crashes)) (s .n)) _ others))
@@ -99,7 +99,7 @@ module _ (s : Schedule) where
         }
 
     pub accepted-question : Accepted s limit answers → question s limit answers ≡ 0
-    unfolding question ask andThen tablesLong
+    unfolding question ask andThen tablesOf
     accepted-question a =
         let n-low = a .n-low in
         let t-high = a .rules .t-high in

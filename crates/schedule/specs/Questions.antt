@@ -1,6 +1,7 @@
 -- The questions before a run of a schedule in tables, and the rules that they ask for.
 use Prim.Native.Nat.{ℕ, _+_, _^_, _≤_, _<_}
 use mathlib.Core.Path.{_≡_}
+use mathlib.Core.List.{List}
 use mathlib.Core.Bool.{Bool, true, false, _&&_, _||_, not}
 use lib.ListN.{length}
 use lib.Dec.{ltb, leb, eqb}
@@ -20,10 +21,14 @@ entryQuestion n t i vote crash reach =
     (ask (reachRight n i crash reach) 6
     0))
 
+-- each of three tables has so many entries
+unfoldable pub tablesOf : ℕ → List ℕ → List ℕ → List ℕ → Bool
+tablesOf size votes crashes reaches = eqb (length votes) size && (eqb (length crashes) size && eqb (length reaches) size)
+
 module _ (s : Schedule) where
   -- "Each of the three input .. tables n long?"
-  unfoldable pub tablesLong : Bool
-  tablesLong = eqb (length (s .votes)) (s .n) && (eqb (length (s .crashes)) (s .n) && eqb (length (s .reaches)) (s .n))
+  abbrev pub tablesLong : Bool
+  tablesLong = tablesOf (s .n) (s .votes) (s .crashes) (s .reaches)
 
   -- "For each process in order": questions 4 to 6 of the process at place i
   abbrev pub processQuestion : ℕ → ℕ

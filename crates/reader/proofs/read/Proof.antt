@@ -6,9 +6,10 @@ use borrow.Author.Needs.{needs}
 use Rattle.laws.specs.Answer.{accepted}
 use Rattle.laws.proofs.Test.{was-false, was-true}
 use Rattle.member.specs.Opening.{largest}
+use Rattle.schedule.specs.Questions.{tablesOf}
 use Rattle.text.specs.Forms.{Sizes}
 use Rattle.text.specs.Reading.{longest, sizesIn}
-use Rattle.reader.specs.Answers.{readingIs, tablesOf, readQuestions}
+use Rattle.reader.specs.Answers.{readingIs, readQuestions}
 use Rattle.reader.specs.Parts.{linesIs, restQuestions}
 use Rattle.reader.proofs.Whole.{tables-long, tables-refuse, head-refused, head-passed, read-refused, read-accepted, table-kept, table-read}
 use Rattle.reader.proofs.read.Statement.{statement}

@@ -2,21 +2,21 @@
 use native.Mathlib.Omega.{arith}
 use borrow.Author.Tests.{eq-eqb, ne-eqb}
 use lib.ListN.{length}
-use Rattle.schedule.specs.Questions.{tablesLong}
+use Rattle.schedule.specs.Questions.{tablesOf}
 use Rattle.acceptance.proofs.tables.are_tables_long.Statement.{statement}
 use Rattle.acceptance.proofs.tables.are_tables_long.Tie as tie
 
 returns : tie.Need-returns
-unfolding tablesLong
+unfolding tablesOf
 returns c s en ev ec er = rw (ne-eqb (length (s .votes)) (s .n) (λ e. omega arith))
 
 returns-2 : tie.Need-returns-2
-unfolding tablesLong
+unfolding tablesOf
 returns-2 c s en ev ec er =
     rw (eq-eqb (length (s .votes)) (s .n) (omega arith), ne-eqb (length (s .crashes)) (s .n) (λ e. omega arith))
 
 returns-3 : tie.Need-returns-3
-unfolding tablesLong
+unfolding tablesOf
 returns-3 c s en ev ec er =
     rw (
       eq-eqb (length (s .votes)) (s .n) (omega arith),
@@ -25,7 +25,7 @@ returns-3 c s en ev ec er =
     )
 
 returns-4 : tie.Need-returns-4
-unfolding tablesLong
+unfolding tablesOf
 returns-4 c s en ev ec er =
     rw (
       eq-eqb (length (s .votes)) (s .n) (omega arith),

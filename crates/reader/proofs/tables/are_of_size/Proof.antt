@@ -2,7 +2,7 @@
 use native.Mathlib.Omega.{arith}
 use borrow.Author.Tests.{eq-eqb, ne-eqb}
 use lib.ListN.{length}
-use Rattle.reader.specs.Answers.{tablesOf}
+use Rattle.schedule.specs.Questions.{tablesOf}
 use Rattle.reader.proofs.tables.are_of_size.Statement.{statement}
 use Rattle.reader.proofs.tables.are_of_size.Tie as tie
 
