@@ -7,10 +7,10 @@ ghost use mathlib.Core.Bool.{true};
 ghost use Prim.Native.Nat.{_<_};
 ghost use lib.ListN.{length};
 ghost use Rattle.marked.specs.Marked.{cases};
-ghost use Rattle.marked.specs.Refused.{refusals};
+ghost use Rattle.refusals.specs.Refused.{refusals};
 use libc::STDOUT_FILENO;
 use marked::Case;
-use marked::Refusal;
+use refusals::Refusal;
 use simulator::Counts;
 use simulator::Simulated;
 
@@ -138,7 +138,7 @@ fn show_refusals() {
 fn is_refusal(k: usize) -> bool
     ensures before_the_end { λ r. ⌜ (r ≡ true → k < length refusals) ⌝ }
 {
-    let entry = marked::refusal_at(k);
+    let entry = refusals::refusal_at(k);
     entry.found
 }
 
@@ -146,7 +146,7 @@ fn is_refusal(k: usize) -> bool
 fn show_refusal(k: usize)
     requires there { ⌜ k < length refusals ⌝ }
 {
-    let entry = marked::refusal_at(k);
+    let entry = refusals::refusal_at(k);
     let number = number_of(entry.refusal);
     print_number(k + 1, b" ");
     print_number(number as usize, b"\n");

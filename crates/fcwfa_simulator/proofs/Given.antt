@@ -1,5 +1,5 @@
 -- Demand 3 of the numbers, from demand 3 of the answer. Assumes nothing.
-use mathlib.Core.Path.{_≡_, sym, _∙_, subst}
+use mathlib.Core.Path.{_≡_, sym, subst}
 use Prim.Native.Nat.{ℕ}
 use mathlib.Core.List.{List}
 use Rattle.laws.specs.Answer.{accepted}

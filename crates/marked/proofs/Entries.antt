@@ -12,9 +12,7 @@ use Rattle.schedule.specs.Questions.{question}
 use Rattle.run.specs.Protocol.{fcwfa}
 use Rattle.run.specs.Report.{report}
 use Rattle.marked.specs.declared.Case.{Case}
-use Rattle.marked.specs.declared.Refusal.{Refusal}
 use Rattle.marked.specs.Marked.{scheduleOf, expected, cases, noCase, MarkedTable, CaseAt}
-use Rattle.marked.specs.Refused.{refusals, refusedSchedule, noRefusal, RefusalAt}
 
 -- the entry at place i of the table is handed out for k
 pub case-found : {table : List Case} → MarkedTable table → (d : Case) {i k : ℕ} → i ≡ k → k < 11 → CaseAt k (record { found = true; case = getD table i d })
@@ -32,14 +30,3 @@ no-case {k} h = record {
   accepted = λ e. cc;
   results = λ e. cc;
 }
-
-pub refusal-found : {table : List Refusal} → table ≡ refusals → (d : Refusal) {i k : ℕ} → i ≡ k → k < 6 → RefusalAt k (record { found = true; refusal = getD table i d })
-refusal-found {table} is d {i} {k} same h =
-    let below : i < length table = omega (arith, ap length is) in
-    record {
-      entry = cc (lt-ltb k 6 h, read-same refusals d noRefusal k h);
-      number = λ e. agree-at (λ r. question (refusedSchedule r) largest true) (λ r. r .number) table d (rw is refl) i below;
-    }
-
-pub no-refusal : {k : ℕ} → 6 ≤ k → RefusalAt k (record { found = false; refusal = noRefusal })
-no-refusal {k} h = record { entry = cc (le-ltb k 6 h, List·getD-eq-default refusals noRefusal h); number = λ e. cc }

@@ -1,2 +1,1 @@
 pub mod Marked
-pub mod Refused

@@ -10,22 +10,11 @@ use lib.Dec.{ltb}
 use Rattle.member.specs.Opening.{largest}
 use Rattle.schedule.specs.Schedule.{Schedule}
 use Rattle.schedule.specs.Questions.{question}
+use Rattle.refusals.specs.Four.{four, allOne, allZero}
 use Rattle.run.specs.Protocol.{fcwfa}
 use Rattle.run.specs.Report.{Report, report}
 use Rattle.marked.specs.declared.Case.{Case}
 use Rattle.marked.specs.declared.CaseEntry.{CaseEntry}
-
--- a table with a number for each of four processes
-abbrev pub four : ℕ → ℕ → ℕ → ℕ → List ℕ
-four a b c d = a ∷ b ∷ c ∷ d ∷ []
-
--- "all votes 1"
-abbrev pub allOne : List ℕ
-allOne = four 1 1 1 1
-
--- no crash rounds, and no reaches
-abbrev pub allZero : List ℕ
-allZero = four 0 0 0 0
 
 -- "n = 4, t = 3": with these votes, crash rounds and reaches
 abbrev pub marked : List ℕ → List ℕ → List ℕ → Schedule

@@ -1,11 +1,9 @@
-// The marked schedules of document 01, A to K, with their results, and its refused schedules with
-// their numbers: a constant table of tables for each.
+// The marked schedules of document 01, A to K, with their results: a constant table of tables.
 //
-// `case_at` and `refusal_at` hand out entry k, counted from 0, or tell that there is none. Each table
-// is proved as a whole: its results and its numbers are those that the definitions give.
+// `case_at` hands out entry k, counted from 0, or tells that there is none. The table is proved as a
+// whole: its results are those that the definitions give.
 ghost use mathlib.Core.Path.{_≡_};
 ghost use Rattle.marked.specs.Marked.{MarkedTable, CaseAt};
-ghost use Rattle.marked.specs.Refused.{refusals, RefusalAt};
 
 // A marked schedule, with n = 4 and t = 3, and its results. Bit i - 1 of a reach is for process i. A
 // decision is 0, 1 or 2 (none), and a process without one has round 0.
@@ -26,22 +24,6 @@ pub struct Case {
 pub struct CaseEntry {
     pub found: bool,
     pub case: Case,
-}
-
-// A schedule of n processes, in the first n places of its tables, and the number that it is refused
-// with, 0 if it passes.
-pub struct Refusal {
-    pub n: usize,
-    pub t: usize,
-    pub votes: [u8; 4],
-    pub crashes: [u8; 4],
-    pub reaches: [u32; 4],
-    pub number: u8,
-}
-
-pub struct RefusalEntry {
-    pub found: bool,
-    pub refusal: Refusal,
 }
 
 const CASES: [Case; 11] = [
@@ -191,72 +173,6 @@ const NO_CASE: Case = Case {
     messages: 0,
 };
 
-const REFUSED: [Refusal; 6] = [
-    // n = 3 with a vote 2
-    Refusal {
-        n: 3,
-        t: 3,
-        votes: [2, 1, 1, 0],
-        crashes: [0, 0, 0, 0],
-        reaches: [0, 0, 0, 0],
-        number: 1,
-    },
-    // t = 4 at n = 4
-    Refusal {
-        n: 4,
-        t: 4,
-        votes: [1, 1, 1, 1],
-        crashes: [0, 0, 0, 0],
-        reaches: [0, 0, 0, 0],
-        number: 2,
-    },
-    // crash round 5
-    Refusal {
-        n: 4,
-        t: 3,
-        votes: [1, 1, 1, 1],
-        crashes: [5, 0, 0, 0],
-        reaches: [0, 0, 0, 0],
-        number: 5,
-    },
-    // while 4 passes
-    Refusal {
-        n: 4,
-        t: 3,
-        votes: [1, 1, 1, 1],
-        crashes: [4, 0, 0, 0],
-        reaches: [0, 0, 0, 0],
-        number: 0,
-    },
-    // 1: 1/1000
-    Refusal {
-        n: 4,
-        t: 3,
-        votes: [1, 1, 1, 1],
-        crashes: [1, 0, 0, 0],
-        reaches: [1, 0, 0, 0],
-        number: 6,
-    },
-    // four crashes
-    Refusal {
-        n: 4,
-        t: 3,
-        votes: [1, 1, 1, 1],
-        crashes: [1, 1, 1, 1],
-        reaches: [0, 0, 0, 0],
-        number: 7,
-    },
-];
-
-const NO_REFUSAL: Refusal = Refusal {
-    n: 0,
-    t: 0,
-    votes: [0, 0, 0, 0],
-    crashes: [0, 0, 0, 0],
-    reaches: [0, 0, 0, 0],
-    number: 0,
-};
-
 // The table of A to K: its contract is the statement that covers it.
 fn all_cases() -> [Case; 11]
     ensures marked { λ r. ⌜ MarkedTable r ⌝ }
@@ -279,30 +195,5 @@ pub fn case_at(k: usize) -> CaseEntry
     CaseEntry {
         found: true,
         case: case,
-    }
-}
-
-// The table of the refused schedules, and the statement that covers it.
-fn all_refusals() -> [Refusal; 6]
-    ensures refused { λ r. ⌜ r ≡ refusals ⌝ }
-{
-    REFUSED
-}
-
-// Refused schedule k, in document 01's order.
-pub fn refusal_at(k: usize) -> RefusalEntry
-    ensures handed_out { λ r. ⌜ RefusalAt k r ⌝ }
-{
-    if REFUSED.len() <= k {
-        return RefusalEntry {
-            found: false,
-            refusal: NO_REFUSAL,
-        };
-    }
-    let all = all_refusals();
-    let refusal = all[k];
-    RefusalEntry {
-        found: true,
-        refusal: refusal,
     }
 }

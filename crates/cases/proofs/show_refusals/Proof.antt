@@ -3,7 +3,7 @@ use Prim.Native.Nat.{_-_}
 use native.Mathlib.Omega.{arith}
 use borrow.Author.Needs.{needs}
 use lib.ListN.{length}
-use Rattle.marked.specs.Refused.{refusals}
+use Rattle.refusals.specs.Refused.{refusals}
 use Rattle.cases.proofs.show_refusals.Statement.{statement}
 use Rattle.cases.proofs.show_refusals.Tie as tie
 

@@ -1,5 +1,5 @@
 -- `fcwfa_hear` meets its contract: its number and its bytes are those of the answer of `hear`. Assumes nothing.
-use mathlib.Core.Path.{_≡_, sym, ap, _∙_}
+use mathlib.Core.Path.{sym, ap, _∙_}
 use borrow.Author.Needs.{needs}
 use denote.Ref.{now}
 use Rattle.laws.proofs.Answer.{answer-given, answer-kept}

@@ -1,5 +1,5 @@
 -- `fcwfa_simulate` meets its contract: its number, counts and tables are those of the answer of `simulate`. Assumes nothing.
-use mathlib.Core.Path.{_≡_, sym, ap, _∙_}
+use mathlib.Core.Path.{sym, ap, _∙_}
 use borrow.Author.Needs.{needs}
 use Rattle.laws.proofs.Answer.{refused-is, answer-given, answer-kept}
 use Rattle.simulator.specs.Answers.{simulatedIs, simulateAnswer}

@@ -1,5 +1,6 @@
 -- The refused schedules (document 01, "Marked schedules"), and the table of them with the numbers that their questions come to.
--- As in Marked.antt, the schedules stand here too and their numbers do not.
+-- A contract cannot name a constant of the code, so the schedules stand here too. Their numbers do not: those of the constant are proved to be what
+-- the definitions give.
 use Prim.Native.Nat.{ℕ}
 use mathlib.Core.Path.{_≡_}
 use mathlib.Core.List.{List, [], _∷_}
@@ -9,9 +10,9 @@ use lib.Dec.{ltb}
 use Rattle.member.specs.Opening.{largest}
 use Rattle.schedule.specs.Schedule.{Schedule}
 use Rattle.schedule.specs.Questions.{question}
-use Rattle.marked.specs.declared.Refusal.{Refusal}
-use Rattle.marked.specs.declared.RefusalEntry.{RefusalEntry}
-use Rattle.marked.specs.Marked.{four, allOne, allZero}
+use Rattle.refusals.specs.declared.Refusal.{Refusal}
+use Rattle.refusals.specs.declared.RefusalEntry.{RefusalEntry}
+use Rattle.refusals.specs.Four.{four, allOne, allZero}
 
 -- a schedule of n processes in the first n places of these tables
 abbrev pub tabled : ℕ → ℕ → List ℕ → List ℕ → List ℕ → Schedule

@@ -1,9 +1,9 @@
 -- `refusal_at` meets its contract. Assumes nothing.
 use native.Mathlib.Omega.{arith}
-use Rattle.marked.proofs.Entries.{refusal-found, no-refusal}
+use Rattle.refusals.proofs.Entries.{refusal-found, no-refusal}
 use borrow.Author.Needs.{needs}
-use Rattle.marked.proofs.refusal_at.Statement.{statement}
-use Rattle.marked.proofs.refusal_at.Tie as tie
+use Rattle.refusals.proofs.refusal_at.Statement.{statement}
+use Rattle.refusals.proofs.refusal_at.Tie as tie
 
 returns : tie.Need-returns
 returns c = no-refusal (omega arith)

@@ -6,8 +6,8 @@ use Rattle.laws.specs.Below.{sum, count, fold}
 use Rattle.laws.specs.Answer.{ask, andThen, askEach}
 use Rattle.schedule.specs.Schedule.{names, crashesIn}
 use Rattle.schedule.specs.Questions.{tablesOf, reachRight, entryQuestion, question}
-use Rattle.marked.proofs.all_refusals.Statement.{statement}
-use Rattle.marked.proofs.all_refusals.Tie as tie
+use Rattle.refusals.proofs.all_refusals.Statement.{statement}
+use Rattle.refusals.proofs.all_refusals.Tie as tie
 
 returns : tie.Need-returns
 unfolding within sum count fold ask andThen askEach names crashesIn tablesOf reachRight entryQuestion question

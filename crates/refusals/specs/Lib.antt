@@ -1,0 +1,2 @@
+pub mod Four
+pub mod Refused
