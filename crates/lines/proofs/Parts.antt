@@ -59,6 +59,10 @@ unfolding afterLines
 lines-drop zero text = ap (λ (k : ℕ). drop k text) {x = startOf text text} {y = 0} (omega arith)
 lines-drop (suc k) text = let at = startOf text (afterLines k text) in let e : drop at text ≡ afterLines k text = lines-drop k text in rw e at (next-drop text at)
 
+-- a part that starts where k lines have ended is what is left after them
+pub part-after : (text : List ℕ) (k : ℕ) {part : List ℕ} {at : ℕ} → part ≡ drop at text → at ≡ startOf text (afterLines k text) → part ≡ afterLines k text
+part-after text k e h = e ∙ ap (λ (j : ℕ). drop j text) h ∙ lines-drop k text
+
 -- one line more, and line k by its first and its last place
 module _ (text : List ℕ) where
   pub lines-more : (k at next : ℕ) → at ≡ startOf text (afterLines k text) → next ≡ startOf text (afterLine (drop at text)) → next ≡ startOf text (afterLines (k + 1) text)

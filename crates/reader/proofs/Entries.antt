@@ -12,8 +12,8 @@ use Rattle.lines.specs.Lines.{afterLines}
 use Rattle.schedule.specs.Questions.{entryQuestion, processQuestion}
 use Rattle.text.specs.Forms.{Entry, entryAt}
 use Rattle.text.specs.Reading.{onLine, sizesIn, entryIn, scheduleIn, entryQuestions}
-use Rattle.reader.specs.Parts.{valueOf}
-use Rattle.reader.proofs.InOrder.{not-found, is-found, found-value}
+use Rattle.forms.specs.Answers.{valueOf}
+use Rattle.forms.proofs.LineForms.{not-found, is-found, found-value}
 
 abbrev noEntry : Entry
 noEntry = record { vote = 0; crash = 0; reach = 0 }

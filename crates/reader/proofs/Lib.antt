@@ -1,4 +1,3 @@
-pub mod LineForms
 pub mod InOrder
 pub mod Entries
 pub mod Copies

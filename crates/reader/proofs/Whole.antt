@@ -19,10 +19,11 @@ use Rattle.schedule.specs.Questions.{tablesOf}
 use Rattle.text.specs.Forms.{Sizes}
 use Rattle.text.specs.Reading.{onLine, sizesIn, entryIn, scheduleIn, entryQuestions, textQuestions}
 use Rattle.text.proofs.Accepted.{line-passed}
+use Rattle.forms.specs.Answers.{headQuestions}
 use Rattle.reader.specs.declared.Lines.{Lines}
 use Rattle.reader.specs.declared.Lines.the-variants.{Passed}
 use Rattle.reader.specs.Answers.{givenOr, filled, readQuestions, readAnswer, tableAfter}
-use Rattle.reader.specs.Parts.{Table, EntriesRead, headQuestions, tailQuestions, restQuestions}
+use Rattle.reader.specs.Parts.{Table, EntriesRead, tailQuestions, restQuestions}
 
 -- What is given, and what is kept.
 module _ {A B : Type 0} {q : Answer (Unit {0}) B} (given kept : A) where

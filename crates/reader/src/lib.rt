@@ -3,7 +3,6 @@
 // `read` takes any bytes and any three tables. It asks the text's questions line by line; where each is
 // answered by yes it fills the first n entries of the tables and answers n and t, and else it answers the
 // number and the line of the first no and leaves the tables as they were lent. It has no `requires`.
-mod lines_of;
 mod parts;
 mod rest;
 mod tables;
@@ -11,26 +10,10 @@ mod tables;
 ghost use mathlib.Core.Path.{_≡_};
 ghost use Rattle.member.specs.Opening.{largest};
 ghost use Rattle.text.specs.Reading.{longest};
-ghost use Rattle.reader.specs.Answers.{readingIs, readAnswer, votesAfter, crashesAfter, reachesAfter};
-use crate::parts::read_head;
-
-// The sizes n and t of the text, or the number of the first question whose answer is no and its line.
-pub enum Reading {
-    Read(usize, usize),
-    Refused(u8, usize),
-}
-
-// The values of line 2, or that it is not of its form.
-pub enum SizesLine {
-    Sized(usize, usize),
-    NoSizes,
-}
-
-// The vote, the crash round and the reach of a process's line, or that it is not of its form.
-pub enum ProcessLine {
-    Process(u8, u8, u32),
-    NoProcess,
-}
+ghost use Rattle.forms.specs.Answers.{readingIs};
+ghost use Rattle.reader.specs.Answers.{readAnswer, votesAfter, crashesAfter, reachesAfter};
+use forms::Reading;
+use forms::read_head;
 
 // Some questions were answered by yes, or the number of the first whose answer is no and its line.
 pub enum Lines {

@@ -1,49 +1,16 @@
-// The parts of a text in order: the lines before the processes, the lines of the processes, and what
-// is asked after them.
+// The parts of a text after its head in order: the lines of the processes, and what is asked after them.
 ghost use mathlib.Core.Path.{_≡_};
 ghost use Prim.Native.Nat.{_≤_};
 ghost use lib.ListN.{length};
-ghost use Rattle.laws.specs.Answer.{accepted, andNext, nextEach};
-ghost use Rattle.member.specs.Opening.{largest};
-ghost use Rattle.text.specs.Reading.{longest, sizesIn, entryQuestions};
-ghost use Rattle.reader.specs.Answers.{readingIs};
-ghost use Rattle.reader.specs.Parts.{linesIs, headQuestions, tailQuestions, EntriesRead};
+ghost use Rattle.laws.specs.Answer.{nextEach};
+ghost use Rattle.text.specs.Reading.{sizesIn, entryQuestions};
+ghost use Rattle.reader.specs.Parts.{linesIs, tailQuestions, EntriesRead};
 use crate::Lines;
-use crate::ProcessLine;
-use crate::Reading;
-use crate::SizesLine;
-use crate::lines_of::read_process;
-use crate::lines_of::read_sizes;
-use fields::starts_with;
+use forms::ProcessLine;
+use forms::read_process;
 use lines::from;
 use lines::line_start;
 use lines::next_line;
-
-// How many bytes a text may have.
-const LONGEST: usize = 2048;
-
-// The question of the text's length, and those of lines 1 to 3.
-pub fn read_head(text: &[u8]) -> Reading
-    ensures asked { λ r. ⌜ readingIs r ≡ andNext (headQuestions (now (text .entry)) largest longest) (accepted (sizesIn (now (text .entry)))) ⌝ }
-{
-    if LONGEST < text.len() {
-        return Reading::Refused(8, 0);
-    }
-    if !starts_with(text, b"n t\n") {
-        return Reading::Refused(9, 1);
-    }
-    let SizesLine::Sized(n, t) = read_sizes(from(text, line_start(text, 1))) else {
-        return Reading::Refused(9, 2);
-    };
-    let number = acceptance::size_question(n, t);
-    if number != 0 {
-        return Reading::Refused(number, 2);
-    }
-    if !starts_with(from(text, line_start(text, 2)), b"id vote crash reach\n") {
-        return Reading::Refused(9, 3);
-    }
-    Reading::Read(n, t)
-}
 
 // The questions of the lines of the processes, in order, and what stands there.
 pub fn read_processes(

@@ -12,9 +12,9 @@ ghost use Rattle.member.specs.Opening.{largest};
 ghost use Rattle.text.specs.Reading.{longest};
 ghost use Rattle.text.specs.Output.{outputOf};
 ghost use Rattle.report.specs.Answers.{outputIs, OutputKeepsDemand3};
+use forms::Reading;
 use laws::zero_bytes;
 use laws::zero_words;
-use reader::Reading;
 
 // The output's bytes with zeros after them, and how many they are. The longest output is the refusal
 // of a line of 2,048 bytes: 64 more are enough for the lines before it.

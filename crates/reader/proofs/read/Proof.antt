@@ -9,7 +9,8 @@ use Rattle.member.specs.Opening.{largest}
 use Rattle.schedule.specs.Questions.{tablesOf}
 use Rattle.text.specs.Forms.{Sizes}
 use Rattle.text.specs.Reading.{longest, sizesIn}
-use Rattle.reader.specs.Answers.{readingIs, readQuestions}
+use Rattle.forms.specs.Answers.{readingIs}
+use Rattle.reader.specs.Answers.{readQuestions}
 use Rattle.reader.specs.Parts.{linesIs, restQuestions}
 use Rattle.reader.proofs.Whole.{tables-long, tables-refuse, head-refused, head-passed, read-refused, read-accepted, table-kept, table-read}
 use Rattle.reader.proofs.read.Statement.{statement}

@@ -7,7 +7,8 @@ use Rattle.laws.specs.Answer.{accepted, refused}
 use Rattle.member.specs.Opening.{largest}
 use Rattle.schedule.specs.Schedule.{scheduleOf}
 use Rattle.text.specs.Reading.{longest, scheduleIn}
-use Rattle.reader.specs.Answers.{readingIs, readAnswer}
+use Rattle.forms.specs.Answers.{readingIs}
+use Rattle.reader.specs.Answers.{readAnswer}
 use Rattle.report.specs.Answers.{outputIs}
 use Rattle.report.proofs.Texts.{schedule-read, n-small, read-question, report-printed, line-shown, refusal-printed, counts, keeps-demand-3}
 use Rattle.report.proofs.printed.Statement.{statement}

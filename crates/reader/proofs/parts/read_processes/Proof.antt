@@ -10,12 +10,13 @@ use Rattle.laws.specs.Answer.{accepted, refused, nextEach}
 use Rattle.laws.proofs.Answer.{next-each-passes, next-each-refused}
 use Rattle.laws.proofs.Filled.{each-none, each-more, each-all}
 use Rattle.lines.specs.Lines.{startOf, afterLines}
-use Rattle.lines.proofs.Parts.{lines-more}
+use Rattle.lines.proofs.Parts.{part-after, lines-more}
 use Rattle.schedule.specs.Questions.{entryQuestion}
 use Rattle.text.specs.Forms.{Entry, entryAt}
 use Rattle.text.specs.Reading.{sizesIn, entryIn, entryQuestions}
-use Rattle.reader.specs.Parts.{valueOf, processIs, Table}
-use Rattle.reader.proofs.InOrder.{part-after}
+use Rattle.forms.specs.Answers.{valueOf, processIs}
+use Rattle.forms.proofs.LineForms.{entry-in-32}
+use Rattle.reader.specs.Parts.{Table}
 use Rattle.reader.proofs.Entries.{line-wrong, entry-is, entry-refused, entry-passed}
 use Rattle.reader.proofs.parts.read_processes.Statement.{statement}
 use Rattle.reader.proofs.parts.read_processes.Tie as tie
@@ -44,7 +45,7 @@ from-requires : tie.Need-from-requires Inv-loop μ-loop
 from-requires c κs = search needs
 
 read-process-requires : tie.Need-read-process-requires Inv-loop μ-loop
-read-process-requires c κs = (omega arith, omega arith)
+read-process-requires c κs = search needs
 
 enum-known-vote : tie.Need-enum-known-vote Inv-loop μ-loop
 enum-known-vote c = search needs
@@ -72,6 +73,7 @@ entry-read d =
     let i = d .before .before .before .loop .i in
     let pre = d .before .before .before .before .before .before .before .before .before .pre in
     d .read-process .ensures
+    ∙ ap valueOf (entry-in-32 (a .n) i (d .before .from .result .now) (pre .0 .0))
     ∙ ap (λ (n : ℕ). valueOf (entryAt n i (d .before .from .result .now))) (sym (pre .0 .1))
     ∙ ap (λ (part : List ℕ). valueOf (entryAt (sizesIn (a .text .now) .n) i part)) (part-after (a .text .now) (i + 3) (d .before .from .ensures) (d .before .before .before .loop .inv .1))
 

@@ -12,14 +12,16 @@ use lib.Dec.{leb}
 use Rattle.laws.specs.Answer.{accepted}
 use Rattle.laws.proofs.Test.{was-false, was-true}
 use Rattle.lines.specs.Lines.{afterLines}
+use Rattle.lines.proofs.Parts.{part-after}
 use Rattle.fields.specs.Fields.{startsWith}
 use Rattle.member.specs.Opening.{largest, sizeQuestions}
 use Rattle.text.specs.Forms.{sizesHeading, processesHeading, Sizes, sizesAt}
 use Rattle.text.specs.Reading.{longest, sizesIn}
-use Rattle.reader.specs.Parts.{valueOf, sizesIs}
-use Rattle.reader.proofs.InOrder.{not-found, is-found, found-value, part-after, head-8, head-1, head-2, head-sizes, head-3, head-passed}
-use Rattle.reader.proofs.parts.read_head.Statement.{statement}
-use Rattle.reader.proofs.parts.read_head.Tie as tie
+use Rattle.forms.specs.Answers.{valueOf, sizesIs}
+use Rattle.forms.proofs.LineForms.{not-found, is-found, found-value}
+use Rattle.forms.proofs.InOrder.{head-8, head-1, head-2, head-sizes, head-3, head-passed}
+use Rattle.forms.proofs.read_head.Statement.{statement}
+use Rattle.forms.proofs.read_head.Tie as tie
 
 returns : tie.Need-returns
 returns c = let text = c .before .before .args .text .now in head-8 text _ _ _ (lt-leb (length text) longest (omega arith))

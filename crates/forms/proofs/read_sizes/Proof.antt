@@ -5,11 +5,11 @@ use Rattle.lines.proofs.from.Reads as from-reads
 use Rattle.fields.specs.Found.{found}
 use Rattle.fields.specs.Fields.{space, numberField}
 use Rattle.fields.proofs.number_field.Reads as number-field-reads
-use Rattle.reader.proofs.LineForms.{field-found, field-wrong, no-n, no-t, both-sizes}
-use Rattle.reader.proofs.lines_of.read_sizes.Reads as reads
-use Rattle.reader.proofs.lines_of.read_sizes.Lts as lts
-use Rattle.reader.proofs.lines_of.read_sizes.Statement.{statement}
-use Rattle.reader.proofs.lines_of.read_sizes.Tie as tie
+use Rattle.forms.proofs.LineForms.{field-found, field-wrong, no-n, no-t, both-sizes}
+use Rattle.forms.proofs.read_sizes.Reads as reads
+use Rattle.forms.proofs.read_sizes.Lts as lts
+use Rattle.forms.proofs.read_sizes.Statement.{statement}
+use Rattle.forms.proofs.read_sizes.Tie as tie
 
 number-field-requires : tie.Need-number-field-requires
 number-field-requires c κs = search needs

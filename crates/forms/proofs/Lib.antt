@@ -1,0 +1,2 @@
+pub mod LineForms
+pub mod InOrder

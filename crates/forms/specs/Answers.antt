@@ -1,0 +1,51 @@
+-- What the readers of a schedule text's lines answer.
+use Prim.Native.Nat.{ℕ}
+use mathlib.Core.List.{List}
+use mathlib.Core.Option.{Option, some, none}
+use mathlib.Core.Bool.{cond}
+use lib.ListN.{length}
+use lib.Dec.{leb}
+use Rattle.laws.specs.Answer.{ask, Answer, accepted, refused, andNext}
+use Rattle.lines.specs.Lines.{afterLines}
+use Rattle.fields.specs.Found.{Found, found, wrong}
+use Rattle.fields.specs.Fields.{startsWith}
+use Rattle.member.specs.Opening.{sizeQuestions}
+use Rattle.text.specs.Forms.{sizesHeading, processesHeading, Sizes, sizesAt, Entry, entryAt}
+use Rattle.text.specs.Reading.{isFound, onLine, sizesIn}
+use Rattle.forms.specs.declared.Reading.{Reading}
+use Rattle.forms.specs.declared.Reading.the-variants.{Read, Refused}
+use Rattle.forms.specs.declared.SizesLine.{SizesLine}
+use Rattle.forms.specs.declared.SizesLine.the-variants.{Sized, NoSizes}
+use Rattle.forms.specs.declared.ProcessLine.{ProcessLine}
+use Rattle.forms.specs.declared.ProcessLine.the-variants.{Process, NoProcess}
+
+-- for each case of the answer's enum document 01's number and values: a refusal gives its number and the line's
+abbrev pub readingIs : Reading → Answer Sizes ℕ
+readingIs (Read n t) = accepted (record { n = n; t = t })
+readingIs (Refused number line) = refused number line
+
+-- the questions of lines 1 to 3, and the one before them
+module _ (text : List ℕ) where
+  unfoldable pub headQuestions : ℕ → ℕ → Answer (Unit {0}) ℕ
+  headQuestions limit most =
+      andNext (onLine 0 (ask (leb (length text) most) 8 0))
+      (andNext (onLine 1 (ask (startsWith sizesHeading text) 9 0))
+      (andNext (onLine 2 (ask (isFound (sizesAt (afterLines 1 text))) 9 (sizeQuestions limit (sizesIn text .n) (sizesIn text .t) 0)))
+      (onLine 3 (ask (startsWith processesHeading (afterLines 2 text)) 9 0))))
+
+-- the value that was found, without the text after it
+abbrev pub valueOf : {A : Type 0} → Found A → Option A
+valueOf (found value rest) = some value
+valueOf wrong = none
+
+abbrev pub sizesIs : SizesLine → Option Sizes
+sizesIs (Sized n t) = some (record { n = n; t = t })
+sizesIs NoSizes = none
+
+abbrev pub processIs : ProcessLine → Option Entry
+processIs (Process vote crash reach) = some (record { vote = vote; crash = crash; reach = reach })
+processIs NoProcess = none
+
+-- the line of a process whose reach 32 bits hold
+unfoldable pub entryAt32 : ℕ → ℕ → List ℕ → Found Entry
+entryAt32 n i text = cond (leb n 32) (entryAt n i text) wrong

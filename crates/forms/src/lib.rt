@@ -1,0 +1,107 @@
+// The lines of a schedule text by their forms (document 01, "Schedule text and report").
+//
+// `read_head` asks the question of a text's length and those of lines 1 to 3, and answers n and t.
+// `read_process` reads the line of one process. Both take any bytes and any numbers, answer what the
+// definitions in specs/Answers.antt give, and have no `requires`.
+ghost use mathlib.Core.Path.{_≡_};
+ghost use Rattle.laws.specs.Answer.{accepted, andNext};
+ghost use Rattle.member.specs.Opening.{largest};
+ghost use Rattle.text.specs.Forms.{sizesAt};
+ghost use Rattle.text.specs.Reading.{longest, sizesIn};
+ghost use Rattle.forms.specs.Answers.{valueOf, readingIs, sizesIs, processIs, headQuestions, entryAt32};
+use fields::Field;
+use fields::Reach;
+use fields::starts_with;
+use lines::from;
+use lines::line_start;
+
+// How many bytes a text may have.
+const LONGEST: usize = 2048;
+
+const SPACE: u8 = 32;
+
+const LF: u8 = 10;
+
+// The sizes n and t of the text, or the number of the first question whose answer is no and its line.
+pub enum Reading {
+    Read(usize, usize),
+    Refused(u8, usize),
+}
+
+// The values of line 2, or that it is not of its form.
+pub enum SizesLine {
+    Sized(usize, usize),
+    NoSizes,
+}
+
+// The vote, the crash round and the reach of a process's line, or that it is not of its form.
+pub enum ProcessLine {
+    Process(u8, u8, u32),
+    NoProcess,
+}
+
+// Line 2, at the start of what is handed over: n and t.
+fn read_sizes(text: &[u8]) -> SizesLine
+    ensures read { λ r. ⌜ sizesIs r ≡ valueOf (sizesAt (now (text .entry))) ⌝ }
+{
+    let Field::Value(n, used) = fields::number_field(text, SPACE) else {
+        return SizesLine::NoSizes;
+    };
+    let rest = from(text, used);
+    let Field::Value(t, _) = fields::number_field(rest, LF) else {
+        return SizesLine::NoSizes;
+    };
+    SizesLine::Sized(n as usize, t as usize)
+}
+
+// The question of the text's length, and those of lines 1 to 3.
+pub fn read_head(text: &[u8]) -> Reading
+    ensures asked { λ r. ⌜ readingIs r ≡ andNext (headQuestions (now (text .entry)) largest longest) (accepted (sizesIn (now (text .entry)))) ⌝ }
+{
+    if LONGEST < text.len() {
+        return Reading::Refused(8, 0);
+    }
+    if !starts_with(text, b"n t\n") {
+        return Reading::Refused(9, 1);
+    }
+    let SizesLine::Sized(n, t) = read_sizes(from(text, line_start(text, 1))) else {
+        return Reading::Refused(9, 2);
+    };
+    let number = acceptance::size_question(n, t);
+    if number != 0 {
+        return Reading::Refused(number, 2);
+    }
+    if !starts_with(from(text, line_start(text, 2)), b"id vote crash reach\n") {
+        return Reading::Refused(9, 3);
+    }
+    Reading::Read(n, t)
+}
+
+// The line of the process at place i, at the start of what is handed over: its own number i + 1, vote,
+// crash round and reach of n letters. One of more than 32 letters is none.
+pub fn read_process(text: &[u8], n: usize, i: usize) -> ProcessLine
+    ensures read { λ r. ⌜ processIs r ≡ valueOf (entryAt32 n i (now (text .entry))) ⌝ }
+{
+    let Field::Value(id, id_used) = fields::number_field(text, SPACE) else {
+        return ProcessLine::NoProcess;
+    };
+    if id == 0 {
+        return ProcessLine::NoProcess;
+    }
+    if (id - 1) as usize != i {
+        return ProcessLine::NoProcess;
+    }
+    let after_id = from(text, id_used);
+    let Field::Value(vote, vote_used) = fields::digit_field(after_id, SPACE) else {
+        return ProcessLine::NoProcess;
+    };
+    let after_vote = from(after_id, vote_used);
+    let Field::Value(crash, crash_used) = fields::number_field(after_vote, SPACE) else {
+        return ProcessLine::NoProcess;
+    };
+    let after_crash = from(after_vote, crash_used);
+    let Reach::Names(reach, _) = fields::reach_field(after_crash, n, LF) else {
+        return ProcessLine::NoProcess;
+    };
+    ProcessLine::Process(vote, crash, reach)
+}
