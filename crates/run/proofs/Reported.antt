@@ -23,7 +23,7 @@ use Rattle.run.proofs.Demand.{end-is}
 
 -- the table of rounds, read at any place, even past its end
 module _ (s : Schedule) where
-  final-long : length (final fcwfa s) ≡ s .n
+  pub final-long : length (final fcwfa s) ≡ s .n
   unfolding final
   final-long = states-long fcwfa s (s .t + 1)
 

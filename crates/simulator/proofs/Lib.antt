@@ -1,4 +1,1 @@
-pub mod Moves
-pub mod OneRound
-pub mod AllRounds
 pub mod Whole

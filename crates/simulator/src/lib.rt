@@ -1,13 +1,8 @@
 // Runs a schedule given in tables to its end (document 01, "Who hears whom").
 //
-// `simulate` asks questions 1 to 7, opens a member for each process, plays the rounds, fills the two
-// answer tables and answers the counts. The members are run through the public `open` and `say` of the
-// crate `member` and `hear` of the crate `hearing`, the code that a machine of the cluster runs; that none
-// of these calls is refused in a run is proved. It takes anything, and has no `requires`.
+// `simulate` has the questions asked and the rounds played by `run` of the crate `rounds`, fills the two
+// answer tables and answers the counts. It takes anything, and has no `requires`.
 mod answers;
-mod members;
-mod play;
-mod rows;
 
 ghost use mathlib.Core.Path.{_≡_};
 ghost use Rattle.member.specs.Opening.{largest};
@@ -45,12 +40,12 @@ pub fn simulate(
     ensures demand_3 { λ r. ⌜ AnswersKeepDemand3 (scheduleOf n t (now (votes .entry)) (now (crashes .entry)) (now (reaches .entry))) r (now (decisions .exit)) (now (rounds .exit)) ⌝ }
 {
     let answers = answers::are_long(n, decisions.len(), rounds.len());
-    let question = acceptance::question(n, t, votes, crashes, reaches, answers);
+    let ran = rounds::run(n, t, votes, crashes, reaches, answers);
+    let question = ran.question;
     if question != 0 {
         return Simulated::Refused(question);
     }
-    let run = play::play(n, t, votes, crashes, reaches);
-    let members = run.members;
+    let members = ran.members;
     answers::fill(members, decisions, rounds);
-    Simulated::Completed(answers::counts_of(crashes, &rounds[..], run.messages))
+    Simulated::Completed(answers::counts_of(crashes, &rounds[..], ran.messages))
 }

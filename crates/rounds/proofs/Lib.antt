@@ -1,0 +1,4 @@
+pub mod Moves
+pub mod OneRound
+pub mod AllRounds
+pub mod Whole

@@ -1,0 +1,15 @@
+-- `no_members` meets its contract: what is repeated is nobody. Assumes nothing.
+use mathlib.Core.Path.{ap}
+use borrow.Author.Needs.{needs}
+use lib.ListN.{replicate}
+use Rattle.rounds.proofs.members.no_members.Statement.{statement}
+use Rattle.rounds.proofs.members.no_members.Tie as tie
+
+no-member-requires : tie.Need-no-member-requires
+no-member-requires c κs = search needs
+
+returns : tie.Need-returns
+returns c = ap (replicate 32) (c .no-member .ensures)
+
+pub no-members-spec : {M : Type 1} → statement M
+no-members-spec = tie.close (tie.spec no-member-requires returns)
