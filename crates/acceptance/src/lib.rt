@@ -14,7 +14,7 @@ ghost use mathlib.Core.Path.{_≡_};
 ghost use lib.ListN.{length};
 ghost use Rattle.member.specs.Opening.{largest, sizeQuestions};
 ghost use Rattle.schedule.specs.Schedule.{scheduleOf, names, crashesIn};
-ghost use Rattle.schedule.specs.Questions.{question as Questions·question};
+ghost use Rattle.schedule.specs.Questions.{answersOf, question as Questions·question};
 ghost use Rattle.acceptance.specs.Answers.{acceptanceIs, acceptAnswer};
 use crate::tables::are_tables_long;
 use crate::tables::processes_question;
@@ -69,23 +69,31 @@ pub fn size_question(n: usize, t: usize) -> u8
     0
 }
 
-// The number of the first question of a schedule in tables whose answer is no, or 0. `answers` tells
-// whether the answer tables that the call takes are n long.
+// The number of the first question of a schedule in tables whose answer is no, or 0. `decisions` and
+// `rounds` are the lengths of the answer tables that the call takes; one that takes none passes n.
 pub fn question(
     n: usize,
     t: usize,
     votes: &[u8],
     crashes: &[u8],
     reaches: &[u32],
-    answers: bool,
+    decisions: usize,
+    rounds: usize,
 ) -> u8
-    ensures asked { λ r. ⌜ r ≡ Questions·question (scheduleOf n t (now (votes .entry)) (now (crashes .entry)) (now (reaches .entry))) largest answers ⌝ }
+    ensures asked { λ r. ⌜ r ≡ Questions·question (scheduleOf n t (now (votes .entry)) (now (crashes .entry)) (now (reaches .entry))) largest (answersOf n decisions rounds) ⌝ }
 {
     let sizes = size_question(n, t);
     if sizes != 0 {
         return sizes;
     }
-    if !are_tables_long(n, votes.len(), crashes.len(), reaches.len(), answers) {
+    if !are_tables_long(
+        n,
+        votes.len(),
+        crashes.len(),
+        reaches.len(),
+        decisions,
+        rounds,
+    ) {
         return 3;
     }
     let number = processes_question(n, t, votes, crashes, reaches);
@@ -103,7 +111,7 @@ pub fn question(
 pub fn accepts(n: usize, t: usize, votes: &[u8], crashes: &[u8], reaches: &[u32]) -> Acceptance
     ensures answered { λ r. ⌜ acceptanceIs r ≡ acceptAnswer largest (scheduleOf n t (now (votes .entry)) (now (crashes .entry)) (now (reaches .entry))) ⌝ }
 {
-    let number = question(n, t, votes, crashes, reaches, true);
+    let number = question(n, t, votes, crashes, reaches, n, n);
     if number != 0 {
         return Acceptance::Refused(number);
     }

@@ -4,18 +4,19 @@ ghost use mathlib.Core.Bool.{_&&_};
 ghost use lib.ListN.{length};
 ghost use Rattle.laws.specs.Answer.{andThen, askEach};
 ghost use Rattle.schedule.specs.Schedule.{Schedule, scheduleOf};
-ghost use Rattle.schedule.specs.Questions.{tablesLong, processQuestion};
+ghost use Rattle.schedule.specs.Questions.{tablesLong, answersOf, processQuestion};
 use crate::process::process_question;
 
-// Whether the three tables, whose lengths are given, are n long, and the answer tables too.
+// Whether the three input tables and the two answer tables, whose lengths are given, are n long.
 pub fn are_tables_long(
     n: usize,
     votes: usize,
     crashes: usize,
     reaches: usize,
-    answers: bool,
+    decisions: usize,
+    rounds: usize,
 ) -> bool
-    ensures tested { λ r. ⌜ ((s : Schedule) → s .n ≡ n → length (s .votes) ≡ votes → length (s .crashes) ≡ crashes → length (s .reaches) ≡ reaches → r ≡ (tablesLong s && answers)) ⌝ }
+    ensures tested { λ r. ⌜ ((s : Schedule) → s .n ≡ n → length (s .votes) ≡ votes → length (s .crashes) ≡ crashes → length (s .reaches) ≡ reaches → r ≡ (tablesLong s && answersOf n decisions rounds)) ⌝ }
 {
     if votes != n {
         return false;
@@ -26,7 +27,10 @@ pub fn are_tables_long(
     if reaches != n {
         return false;
     }
-    answers
+    if decisions != n {
+        return false;
+    }
+    rounds == n
 }
 
 // The number found so far, or where that is 0, the next one.

@@ -1,7 +1,7 @@
 // Shows the simulator at work on the marked schedules of document 01: the report of each case A to K,
 // then, for each refused schedule, its place in the table and the number that the simulator answers, 0
-// for one that passes. Both tables are those of the crate `marked`, with the results that are due; an
-// answer with other results would be followed by a line that says so.
+// for one that passes. The tables are those of the crates `marked` and `refusals`, with the results that
+// are due; an answer with other results would be followed by a line that says so.
 ghost use mathlib.Core.Path.{_≡_};
 ghost use mathlib.Core.Bool.{true};
 ghost use Prim.Native.Nat.{_<_};

@@ -2,7 +2,9 @@
 //
 // A state is six bytes: n, t, own number, the round to play next, the estimate, the decided round. Each
 // function answers 0, or the number of the first question whose answer is no; then what it was lent
-// is as before. Each takes anything; a caller owes only pointers that are good for the sizes given.
+// is as before. Each takes any numbers and bytes. A caller owes this alone: no pointer is NULL, also
+// where its length is 0, each is good for the number of entries that is said or given with it, and what
+// is written overlaps with nothing else that the call is lent.
 mod bytes;
 
 ghost use mathlib.Core.Path.{_≡_};

@@ -2,7 +2,7 @@
 use Prim.Native.Nat.{ℕ}
 use mathlib.Core.Path.{_≡_}
 use mathlib.Core.List.{List, [], _∷_}
-use lib.ListN.{getD}
+use lib.ListN.{length, getD}
 use Rattle.schedule.specs.Schedule.{Schedule}
 use Rattle.run.specs.Given.{GivenDemand3}
 use Rattle.simulator.specs.declared.Counts.{Counts}
@@ -15,6 +15,14 @@ countsNumbers counts = counts .f ∷ counts .first ∷ counts .last ∷ counts .
 -- the counts that stand in four numbers
 abbrev pub countsIn : List ℕ → Counts
 countsIn numbers = record { f = getD numbers 0 0; first = getD numbers 1 0; last = getD numbers 2 0; messages = getD numbers 3 0 }
+
+-- What holds of the counts and their numbers. Proved in proofs/Counts.antt: `counts-numbers : CountsNumbers`.
+pub record CountsNumbers : Type 0 where
+  -- the counts are read back from their numbers, and any four numbers are those of the counts that stand in them
+  pub reads-back : (counts : Counts) → countsIn (countsNumbers counts) ≡ counts
+  pub written : (numbers : List ℕ) → length numbers ≡ 4 → countsNumbers (countsIn numbers) ≡ numbers
+  -- in the heading's order, "f first last messages": those of case D
+  pub in-order : countsNumbers (record { f = 1; first = 2; last = 3; messages = 49 }) ≡ 1 ∷ 2 ∷ 3 ∷ 49 ∷ []
 
 -- Demand 3 of the numbers as given: wherever the call answers 0, with the counts and the two tables after the call.
 pub record NumbersKeepDemand3 (s : Schedule) (number : ℕ) (counts decisions rounds : List ℕ) : Type 0 where

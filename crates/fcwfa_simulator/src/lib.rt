@@ -1,8 +1,9 @@
 // The simulator for programs in C and Rust: `simulate` on numbers and tables.
 //
 // It answers 0, or the number of the first question whose answer is no; then what it was lent is as
-// before. It takes anything; a caller owes only pointers that are good for the sizes given and, of the three
-// places that are written, do not overlap with another.
+// before. It takes any numbers and tables. A caller owes this alone: no pointer is NULL, also where its
+// length is 0, each is good for the number of entries that is said or given with it, and what is written
+// overlaps with nothing else that the call is lent.
 ghost use mathlib.Core.Path.{_≡_};
 ghost use Rattle.laws.specs.Answer.{placeAfter};
 ghost use Rattle.member.specs.Opening.{largest};

@@ -2,7 +2,7 @@
 use Prim.Native.Nat.{ℕ}
 use mathlib.Core.List.{List}
 use mathlib.Core.Option.{Option, some, none}
-use mathlib.Core.Bool.{cond}
+use mathlib.Core.Bool.{Bool, true, false, cond}
 use lib.ListN.{length}
 use lib.Dec.{leb}
 use Rattle.laws.specs.Answer.{ask, Answer, accepted, refused, andNext}
@@ -14,6 +14,8 @@ use Rattle.text.specs.Forms.{sizesHeading, processesHeading, Sizes, sizesAt, En
 use Rattle.text.specs.Reading.{isFound, onLine, sizesIn}
 use Rattle.forms.specs.declared.Reading.{Reading}
 use Rattle.forms.specs.declared.Reading.the-variants.{Read, Refused}
+use Rattle.forms.specs.declared.HeadingLine.{HeadingLine}
+use Rattle.forms.specs.declared.HeadingLine.the-variants.{Heading, NoHeading}
 use Rattle.forms.specs.declared.SizesLine.{SizesLine}
 use Rattle.forms.specs.declared.SizesLine.the-variants.{Sized, NoSizes}
 use Rattle.forms.specs.declared.ProcessLine.{ProcessLine}
@@ -37,6 +39,11 @@ module _ (text : List ℕ) where
 abbrev pub valueOf : {A : Type 0} → Found A → Option A
 valueOf (found value rest) = some value
 valueOf wrong = none
+
+-- whether a heading line is of its form
+abbrev pub headingIs : HeadingLine → Bool
+headingIs Heading = true
+headingIs NoHeading = false
 
 abbrev pub sizesIs : SizesLine → Option Sizes
 sizesIs (Sized n t) = some (record { n = n; t = t })

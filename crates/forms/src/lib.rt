@@ -6,9 +6,10 @@
 ghost use mathlib.Core.Path.{_≡_};
 ghost use Rattle.laws.specs.Answer.{accepted, andNext};
 ghost use Rattle.member.specs.Opening.{largest};
+ghost use Rattle.fields.specs.Fields.{startsWith};
 ghost use Rattle.text.specs.Forms.{sizesAt};
 ghost use Rattle.text.specs.Reading.{longest, sizesIn};
-ghost use Rattle.forms.specs.Answers.{valueOf, readingIs, sizesIs, processIs, headQuestions, entryAt32};
+ghost use Rattle.forms.specs.Answers.{valueOf, readingIs, headingIs, sizesIs, processIs, headQuestions, entryAt32};
 use fields::Field;
 use fields::Reach;
 use fields::starts_with;
@@ -28,6 +29,12 @@ pub enum Reading {
     Refused(u8, usize),
 }
 
+// A heading line is of its form, or it is not.
+pub enum HeadingLine {
+    Heading,
+    NoHeading,
+}
+
 // The values of line 2, or that it is not of its form.
 pub enum SizesLine {
     Sized(usize, usize),
@@ -38,6 +45,16 @@ pub enum SizesLine {
 pub enum ProcessLine {
     Process(u8, u8, u32),
     NoProcess,
+}
+
+// A heading line, at the start of what is handed over, compared letter for letter.
+fn read_heading(text: &[u8], heading: &[u8]) -> HeadingLine
+    ensures read { λ r. ⌜ headingIs r ≡ startsWith (now (heading .entry)) (now (text .entry)) ⌝ }
+{
+    if !starts_with(text, heading) {
+        return HeadingLine::NoHeading;
+    }
+    HeadingLine::Heading
 }
 
 // Line 2, at the start of what is handed over: n and t.
@@ -61,9 +78,9 @@ pub fn read_head(text: &[u8]) -> Reading
     if LONGEST < text.len() {
         return Reading::Refused(8, 0);
     }
-    if !starts_with(text, b"n t\n") {
+    let HeadingLine::Heading = read_heading(text, b"n t\n") else {
         return Reading::Refused(9, 1);
-    }
+    };
     let SizesLine::Sized(n, t) = read_sizes(from(text, line_start(text, 1))) else {
         return Reading::Refused(9, 2);
     };
@@ -71,9 +88,10 @@ pub fn read_head(text: &[u8]) -> Reading
     if number != 0 {
         return Reading::Refused(number, 2);
     }
-    if !starts_with(from(text, line_start(text, 2)), b"id vote crash reach\n") {
+    let third = from(text, line_start(text, 2));
+    let HeadingLine::Heading = read_heading(third, b"id vote crash reach\n") else {
         return Reading::Refused(9, 3);
-    }
+    };
     Reading::Read(n, t)
 }
 

@@ -8,6 +8,7 @@ use native.Mathlib.Nat.{not-suc-le-zero, le-of-suc-le-suc}
 use native.Mathlib.Numerals.{add-one}
 use native.Mathlib.Omega.{arith}
 use lib.ListN.{length, getD, length-append, List·getD-append}
+use lib.Seq.{ext-getD}
 use Rattle.laws.specs.Below.{tabulate}
 use Rattle.laws.proofs.Counting.{split}
 
@@ -50,3 +51,9 @@ module _ {A : Type 0} where
   unfolding tabulate
   tabulate-same zero f g h = refl
   tabulate-same (suc n) f g h = ap₂ (λ (l : List A) (x : A). l ++ (x ∷ [])) (tabulate-same n f g (λ i l. h i (omega arith))) (h n (omega arith))
+
+  -- a list is the list of its entries
+  pub tabulate-entries : (d : A) (xs : List A) (n : ℕ) → length xs ≡ n → tabulate n (λ i. getD xs i d) ≡ xs
+  tabulate-entries d xs n e =
+      let long = length-tabulate n (λ i. getD xs i d) in
+      ext-getD d (tabulate n (λ i. getD xs i d)) xs (long ∙ sym e) (λ i b. getD-tabulate n (λ i. getD xs i d) i d (omega arith))

@@ -1,9 +1,9 @@
 -- Where lines end: bytes that are not LF belong to the line that they start, and an LF ends it. What is left after some lines is a part of the
 -- text, and so is a line. Assumes nothing.
-use mathlib.Core.Path.{_≡_, refl, ap, _∙_}
+use mathlib.Core.Path.{_≡_, refl, sym, ap, _∙_}
 use mathlib.Core.Logic.{_≢_}
 use mathlib.Core.List.{List, [], _∷_, _++_, append-assoc}
-use Prim.Native.Nat.{ℕ, zero, suc, _+_, _≤_, zero-le}
+use Prim.Native.Nat.{ℕ, zero, suc, _+_, _-_, _≤_, zero-le}
 use native.Mathlib.Nat.{le-refl, zero-add, suc-add}
 use native.Mathlib.Omega.{arith}
 use borrow.Author.Tests.{ne-eqb}
@@ -33,6 +33,13 @@ pub after-more : (k j : ℕ) (text : List ℕ) → afterLines (k + j) text ≡ a
 unfolding afterLines
 after-more zero j text = ap (λ (m : ℕ). afterLines m text) (zero-add j)
 after-more (suc k) j text = ap (λ (m : ℕ). afterLines m text) (suc-add k j) ∙ ap afterLine (after-more k j text)
+
+-- after more lines no more is left, so nothing is left once nothing is left
+pub after-fewer : (text : List ℕ) (j k : ℕ) → j ≤ k → length (afterLines k text) ≤ length (afterLines j text)
+after-fewer text j k h =
+    let more : (k - j) + j ≡ k = omega arith in
+    let e : afterLines k text ≡ afterLines (k - j) (afterLines j text) = ap (λ (m : ℕ). afterLines m text) (sym more) ∙ after-more (k - j) j text in
+    rw e (after-short (k - j) (afterLines j text))
 
 module _ (rest : List ℕ) where
   pub after-lf : afterLine (lf ∷ rest) ≡ rest

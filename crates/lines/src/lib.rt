@@ -52,13 +52,14 @@ pub fn from(text: &[u8], at: usize) -> &[u8]
     }
 }
 
-// Where the text after the first k lines starts.
+// Where the text after the first k lines starts. The search ends at the text's end: nothing is left
+// after more lines than there are, whatever k is.
 pub fn line_start(text: &[u8], k: usize) -> usize
     ensures start { λ r. ⌜ r ≡ startOf (now (text .entry)) (afterLines k (now (text .entry))) ⌝ }
 {
     let mut at: usize = 0;
     let mut i: usize = 0;
-    while i < k {
+    while i < k && at < text.len() {
         at = next_line(text, at);
         i += 1;
     }

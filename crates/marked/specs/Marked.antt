@@ -10,7 +10,7 @@ use lib.Dec.{ltb}
 use Rattle.member.specs.Opening.{largest}
 use Rattle.schedule.specs.Schedule.{Schedule}
 use Rattle.schedule.specs.Questions.{question}
-use Rattle.refusals.specs.Four.{four, allOne, allZero}
+use Rattle.schedule.specs.Four.{four, allOne, allZero}
 use Rattle.run.specs.Protocol.{fcwfa}
 use Rattle.run.specs.Report.{Report, report}
 use Rattle.marked.specs.declared.Case.{Case}
@@ -64,8 +64,8 @@ abbrev pub cases : List Case
 cases = map caseOf schedules
 
 -- the schedule that an entry holds, and the results that it expects
-abbrev pub scheduleOf : Case → Schedule
-scheduleOf c = marked (c .votes) (c .crashes) (c .reaches)
+abbrev pub markedSchedule : Case → Schedule
+markedSchedule c = marked (c .votes) (c .crashes) (c .reaches)
 
 abbrev pub expected : Case → Report
 expected c = record {
@@ -81,7 +81,7 @@ expected c = record {
 -- schedules A to K with the results that the definitions give, and all are accepted
 pub record MarkedTable (table : List Case) : Type 0 where
   pub entries : table ≡ cases
-  pub accepted : map (λ c. question (scheduleOf c) largest true) table ≡ map (λ c. 0) table
+  pub accepted : map (λ c. question (markedSchedule c) largest true) table ≡ map (λ c. 0) table
 
 -- what stands where there is no case
 abbrev pub noCase : Case
@@ -104,5 +104,5 @@ caseEntry k = record { found = ltb k (length cases); case = getD cases k noCase 
 -- what `case_at` hands out for k
 pub record CaseAt (k : ℕ) (r : CaseEntry) : Type 0 where
   pub entry : r ≡ caseEntry k
-  pub accepted : r .found ≡ true → question (scheduleOf (r .case)) largest true ≡ 0
-  pub results : r .found ≡ true → report fcwfa (scheduleOf (r .case)) ≡ expected (r .case)
+  pub accepted : r .found ≡ true → question (markedSchedule (r .case)) largest true ≡ 0
+  pub results : r .found ≡ true → report fcwfa (markedSchedule (r .case)) ≡ expected (r .case)

@@ -1,3 +1,4 @@
 pub mod Range
 pub mod Counts
 pub mod Promises
+pub mod Vectors

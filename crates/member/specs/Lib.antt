@@ -5,3 +5,4 @@ pub mod Hearing
 pub mod Questions
 pub mod Answers
 pub mod Promises
+pub mod Vectors

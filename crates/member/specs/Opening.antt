@@ -5,7 +5,8 @@ use Rattle.laws.specs.Test.{within}
 use Rattle.laws.specs.Answer.{ask}
 use Rattle.member.specs.declared.Member.{Member}
 
--- The largest n that is accepted. Nothing but acceptance reads it: every definition is for any n and t, and takes the limit as a parameter where it asks for it.
+-- "n from 4 to 32": the largest n that is accepted. The questions and "in range" take the limit as a parameter, and contracts give them this one; every
+-- other definition is for any n and t.
 abbrev pub largest : ℕ
 largest = 32
 

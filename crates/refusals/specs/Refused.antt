@@ -12,7 +12,7 @@ use Rattle.schedule.specs.Schedule.{Schedule}
 use Rattle.schedule.specs.Questions.{question}
 use Rattle.refusals.specs.declared.Refusal.{Refusal}
 use Rattle.refusals.specs.declared.RefusalEntry.{RefusalEntry}
-use Rattle.refusals.specs.Four.{four, allOne, allZero}
+use Rattle.schedule.specs.Four.{four, allOne, allZero}
 
 -- a schedule of n processes in the first n places of these tables
 abbrev pub tabled : ℕ → ℕ → List ℕ → List ℕ → List ℕ → Schedule

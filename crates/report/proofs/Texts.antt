@@ -21,7 +21,6 @@ use Rattle.schedule.specs.Questions.{tablesOf, question}
 use Rattle.schedule.proofs.Accepted.{question-accepted}
 use Rattle.run.specs.Protocol.{fcwfa}
 use Rattle.run.specs.Report.{report}
-use Rattle.simulator.specs.Answers.{answersLong}
 use Rattle.text.specs.Forms.{Sizes}
 use Rattle.text.specs.Reading.{longest, onLine, sizesIn, scheduleIn, textQuestions, textAnswer}
 use Rattle.text.specs.Output.{reportText, refusalText, printed, outputOf}
@@ -31,10 +30,6 @@ use Rattle.reader.specs.Answers.{givenOr, filled, readQuestions, readAnswer, ta
 use Rattle.report.specs.declared.Output.{Output}
 use Rattle.report.specs.Bytes.{padded}
 use Rattle.report.specs.Answers.{outputIs, OutputKeepsDemand3}
-
-pub answers-long : (n : ℕ) (decisions rounds : List ℕ) → length decisions ≡ n → length rounds ≡ n → answersLong n decisions rounds ≡ true
-unfolding answersLong
-answers-long n decisions rounds ed er = rw (eq-eqb (length decisions) n ed, eq-eqb (length rounds) n er)
 
 -- the bytes of an output that fits, without the zeros after them
 pub take-padded : (size : ℕ) (written : List ℕ) → length written ≤ size → take (length written) (padded size written) ≡ written

@@ -6,11 +6,10 @@ ghost use lib.ListN.{length, take, replicate};
 ghost use Rattle.lines.specs.Lines.{lineOf};
 ghost use Rattle.member.specs.Opening.{largest};
 ghost use Rattle.schedule.specs.Schedule.{scheduleOf};
-ghost use Rattle.schedule.specs.Questions.{question};
+ghost use Rattle.schedule.specs.Questions.{answersOf, question};
 ghost use Rattle.run.specs.Protocol.{fcwfa};
 ghost use Rattle.run.specs.Report.{report};
 ghost use Rattle.text.specs.Output.{reportText, refusalText};
-ghost use Rattle.simulator.specs.Answers.{answersLong};
 ghost use Rattle.report.specs.Answers.{outputIs};
 use crate::Output;
 use crate::report_lines::put_refusal;
@@ -35,7 +34,7 @@ fn completed(
     decisions: &mut [u8],
     rounds: &mut [u8],
 ) -> Output
-    requires accepted { ⌜ question (scheduleOf n t (now votes) (now crashes) (now reaches)) largest (answersLong n (now decisions) (now rounds)) ≡ 0 ⌝ }
+    requires accepted { ⌜ question (scheduleOf n t (now votes) (now crashes) (now reaches)) largest (answersOf n (length (now decisions)) (length (now rounds))) ≡ 0 ⌝ }
     ensures output { λ r. ⌜ r ≡ outputIs (reportText n t (report fcwfa (scheduleOf n t (now (votes .entry)) (now (crashes .entry)) (now (reaches .entry))))) ⌝ }
     ensures fits { λ r. ⌜ r .length ≤ 2112 ⌝ }
 {

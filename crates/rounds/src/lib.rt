@@ -11,6 +11,7 @@ mod rows;
 ghost use mathlib.Core.Path.{_≡_};
 ghost use Rattle.member.specs.Opening.{largest};
 ghost use Rattle.schedule.specs.Schedule.{scheduleOf};
+ghost use Rattle.schedule.specs.Questions.{answersOf};
 ghost use Rattle.rounds.specs.Ran.{ranOf};
 use crate::members::no_members;
 use crate::play::play;
@@ -24,12 +25,20 @@ pub struct Ran {
     pub messages: usize,
 }
 
-// The rounds of the schedule of these tables. `answers` tells whether the answer tables of the call are n
-// long. A refused schedule leaves nobody and no message.
-pub fn run(n: usize, t: usize, votes: &[u8], crashes: &[u8], reaches: &[u32], answers: bool) -> Ran
-    ensures ran { λ r. ⌜ r ≡ ranOf largest (scheduleOf n t (now (votes .entry)) (now (crashes .entry)) (now (reaches .entry))) answers ⌝ }
+// The rounds of the schedule of these tables. `decisions` and `rounds` are the lengths of the call's answer
+// tables. A refused schedule leaves nobody and no message.
+pub fn run(
+    n: usize,
+    t: usize,
+    votes: &[u8],
+    crashes: &[u8],
+    reaches: &[u32],
+    decisions: usize,
+    rounds: usize,
+) -> Ran
+    ensures ran { λ r. ⌜ r ≡ ranOf largest (scheduleOf n t (now (votes .entry)) (now (crashes .entry)) (now (reaches .entry))) (answersOf n decisions rounds) ⌝ }
 {
-    let question = acceptance::question(n, t, votes, crashes, reaches, answers);
+    let question = acceptance::question(n, t, votes, crashes, reaches, decisions, rounds);
     if question != 0 {
         let none = no_members();
         return Ran {

@@ -11,7 +11,7 @@ use Rattle.laws.specs.Answer.{ask, andThen}
 use Rattle.laws.proofs.Test.{and-left, and-right, within-low, within-high, within-is}
 use Rattle.laws.proofs.Answer.{passed, and-then-passed, ask-each-passed, ask-each-passes}
 use Rattle.schedule.specs.Schedule.{Schedule, names, voteOf, crashOf, reachOf, crashCount}
-use Rattle.schedule.specs.Questions.{tablesOf, tablesLong, reachRight, entryQuestion, processQuestion, question, ProcessRules, Accepted}
+use Rattle.schedule.specs.Questions.{tablesOf, answersOf, tablesLong, reachRight, entryQuestion, processQuestion, question, ProcessRules, Accepted}
 
 -- `not a || b` says that b holds where a does.
 implied : (a b : Bool) → not a || b ≡ true → a ≡ true → b ≡ true
@@ -21,6 +21,16 @@ implied false b e h = absurd (false≢true h)
 implies : (a b : Bool) → (a ≡ true → b ≡ true) → not a || b ≡ true
 implies true b h = h refl
 implies false b h = refl
+
+-- both answer tables are n long
+module _ (n decisions rounds : ℕ) where
+  pub answers-long : decisions ≡ n → rounds ≡ n → answersOf n decisions rounds ≡ true
+  unfolding answersOf
+  answers-long d r = rw (eq-eqb decisions n d, eq-eqb rounds n r)
+
+  pub both-long : answersOf n decisions rounds ≡ true → (decisions ≡ n) × (rounds ≡ n)
+  unfolding answersOf
+  both-long e = (eqb-true _ _ (and-left _ _ e), eqb-true _ _ (and-right (eqb decisions n) _ e))
 
 module _ (s : Schedule) where
   module _ (i : ℕ) where

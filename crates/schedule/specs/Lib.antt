@@ -1,3 +1,5 @@
+pub mod Four
 pub mod Schedule
 pub mod Questions
 pub mod Facts
+pub mod Vectors

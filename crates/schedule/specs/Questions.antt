@@ -25,6 +25,10 @@ entryQuestion n t i vote crash reach =
 unfoldable pub tablesOf : ℕ → List ℕ → List ℕ → List ℕ → Bool
 tablesOf size votes crashes reaches = eqb (length votes) size && (eqb (length crashes) size && eqb (length reaches) size)
 
+-- "Each of the .. two answer tables n long?": two tables of these lengths
+unfoldable pub answersOf : ℕ → ℕ → ℕ → Bool
+answersOf n decisions rounds = eqb decisions n && eqb rounds n
+
 module _ (s : Schedule) where
   -- "Each of the three input .. tables n long?"
   abbrev pub tablesLong : Bool

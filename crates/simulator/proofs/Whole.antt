@@ -16,8 +16,8 @@ use Rattle.laws.proofs.Answer.{answer-accepted, answer-refused, valueOr, not-ac
 use Rattle.member.specs.declared.Member.{Member}
 use Rattle.member.specs.Opening.{largest}
 use Rattle.schedule.specs.Schedule.{Schedule, crashesIn}
-use Rattle.schedule.specs.Questions.{Accepted}
-use Rattle.schedule.proofs.Accepted.{question-accepted}
+use Rattle.schedule.specs.Questions.{answersOf, Accepted}
+use Rattle.schedule.proofs.Accepted.{both-long, question-accepted}
 use Rattle.run.specs.Protocol.{fcwfa}
 use Rattle.run.specs.Run.{stateAt, final}
 use Rattle.run.specs.Report.{roundOf, decisionOf, firstOf, lastOf, messages, report}
@@ -28,16 +28,10 @@ use Rattle.rounds.specs.declared.Ran.{Ran}
 use Rattle.rounds.specs.Ran.{ranOf}
 use Rattle.simulator.specs.declared.Counts.{Counts}
 use Rattle.simulator.specs.declared.Simulated.the-variants.{Completed, Refused}
-use Rattle.simulator.specs.Answers.{simulatedIs, countsOf, answersLong, simulateQuestion, simulateAnswer, decisionsAfter, roundsAfter, givenBy, AnswersKeepDemand3}
-
--- what the rounds leave is that of the call: its answer tables are as long as the code finds them
-pub left-is : (s : Schedule) (decisions rounds : List ℕ) {answers : Bool} {ran : Ran} → answers ≡ (eqb (length decisions) (s .n) && eqb (length rounds) (s .n))
-    → ran ≡ ranOf largest s answers → ran ≡ ranOf largest s (answersLong (s .n) decisions rounds)
-unfolding answersLong
-left-is s decisions rounds long e = e ∙ ap (ranOf largest s) long
+use Rattle.simulator.specs.Answers.{simulatedIs, countsOf, simulateQuestion, simulateAnswer, decisionsAfter, roundsAfter, givenBy, AnswersKeepDemand3}
 
 -- A call for which the rounds leave `ran`.
-module _ (s : Schedule) (decisions rounds : List ℕ) {ran : Ran} (left : ran ≡ ranOf largest s (answersLong (s .n) decisions rounds)) where
+module _ (s : Schedule) (decisions rounds : List ℕ) {ran : Ran} (left : ran ≡ ranOf largest s (answersOf (s .n) (length decisions) (length rounds))) where
   asked : ran .question ≡ simulateQuestion largest s decisions rounds
   asked = ap (λ (r : Ran). r .question) left
 
@@ -59,16 +53,12 @@ module _ (s : Schedule) (decisions rounds : List ℕ) {ran : Ran} (left : ran �
     passed : simulateQuestion largest s decisions rounds ≡ 0
     passed = sym asked ∙ yes?
 
-    accepts : Accepted s largest (answersLong (s .n) decisions rounds)
+    accepts : Accepted s largest (answersOf (s .n) (length decisions) (length rounds))
     accepts = question-accepted s largest _ passed
 
-    -- both tables are n long
-    both-long : answersLong (s .n) decisions rounds ≡ true → (length decisions ≡ s .n) × (length rounds ≡ s .n)
-    unfolding answersLong
-    both-long e = (eqb-true _ _ (and-left _ _ e), eqb-true _ _ (and-right (eqb (length decisions) (s .n)) _ e))
-
+    -- both answer tables are n long
     pub tables-long : (length decisions ≡ s .n) × (length rounds ≡ s .n)
-    tables-long = both-long (accepts .answers-long)
+    tables-long = both-long (s .n) _ _ (accepts .answers-long)
 
     pub small : s .n ≤ 32
     small = accepts .n-high
@@ -151,4 +141,4 @@ module _ (s : Schedule) (decisions rounds : List ℕ) {ran : Ran} (left : ran �
 
       pub completed-keeps : AnswersKeepDemand3 s (Completed c) decisions-now rounds-now
       completed-keeps =
-          record { kept = λ k e. subst (GivenDemand3 s) (sym (given-is k e)) (accepted-run s largest (answersLong (s .n) decisions rounds) passed .given-demand-3) }
+          record { kept = λ k e. subst (GivenDemand3 s) (sym (given-is k e)) (accepted-run s largest (answersOf (s .n) (length decisions) (length rounds)) passed .given-demand-3) }

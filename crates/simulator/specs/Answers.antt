@@ -2,12 +2,10 @@
 use Prim.Native.Nat.{ℕ}
 use mathlib.Core.Path.{_≡_}
 use mathlib.Core.List.{List}
-use mathlib.Core.Bool.{Bool, _&&_}
 use lib.ListN.{length}
-use lib.Dec.{eqb}
 use Rattle.laws.specs.Answer.{Answer, accepted, refused, answer, placeAfter}
 use Rattle.schedule.specs.Schedule.{Schedule}
-use Rattle.schedule.specs.Questions.{question}
+use Rattle.schedule.specs.Questions.{answersOf, question}
 use Rattle.run.specs.Protocol.{fcwfa}
 use Rattle.run.specs.Report.{Report, report}
 use Rattle.run.specs.Given.{GivenDemand3}
@@ -24,15 +22,11 @@ simulatedIs (Refused number) = refused number tt
 abbrev pub countsOf : Report → Counts
 countsOf given = record { f = given .f; first = given .first; last = given .last; messages = given .messages }
 
--- "Each of the .. two answer tables n long?"
-unfoldable pub answersLong : ℕ → List ℕ → List ℕ → Bool
-answersLong n decisions rounds = eqb (length decisions) n && eqb (length rounds) n
-
 -- A call with a schedule and two answer tables: `limit` is the largest n that is accepted.
 module _ (limit : ℕ) (s : Schedule) (decisions rounds : List ℕ) where
   -- the number of its first question whose answer is no, or 0
   abbrev pub simulateQuestion : ℕ
-  simulateQuestion = question s limit (answersLong (s .n) decisions rounds)
+  simulateQuestion = question s limit (answersOf (s .n) (length decisions) (length rounds))
 
   unfoldable pub simulateAnswer : Answer Counts (Unit {0})
   simulateAnswer = answer simulateQuestion (countsOf (report fcwfa s)) tt

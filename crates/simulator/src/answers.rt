@@ -1,6 +1,6 @@
 // What the bench gives: the tables of decisions and rounds, and the counts.
 ghost use mathlib.Core.Path.{_≡_};
-ghost use mathlib.Core.Bool.{cond, _&&_};
+ghost use mathlib.Core.Bool.{cond};
 ghost use Prim.Native.Nat.{_≤_};
 ghost use lib.Dec.{eqb};
 ghost use lib.ListN.{length, getD};
@@ -10,13 +10,6 @@ ghost use Rattle.run.specs.Protocol.{fcwfa};
 ghost use Rattle.run.specs.Report.{firstOf, lastOf, roundOf, decisionOf};
 use crate::Counts;
 use member::Member;
-
-// Whether both answer tables are n long.
-pub fn are_long(n: usize, decisions: usize, rounds: usize) -> bool
-    ensures tested { λ r. ⌜ r ≡ (eqb decisions n && eqb rounds n) ⌝ }
-{
-    decisions == n && rounds == n
-}
 
 // The decision of a member, 2 for none.
 fn decision(m: Member) -> u8

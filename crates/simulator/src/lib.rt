@@ -39,8 +39,7 @@ pub fn simulate(
     ensures rounds_given { λ r. ⌜ now (rounds .exit) ≡ roundsAfter largest (scheduleOf n t (now (votes .entry)) (now (crashes .entry)) (now (reaches .entry))) (now (decisions .entry)) (now (rounds .entry)) ⌝ }
     ensures demand_3 { λ r. ⌜ AnswersKeepDemand3 (scheduleOf n t (now (votes .entry)) (now (crashes .entry)) (now (reaches .entry))) r (now (decisions .exit)) (now (rounds .exit)) ⌝ }
 {
-    let answers = answers::are_long(n, decisions.len(), rounds.len());
-    let ran = rounds::run(n, t, votes, crashes, reaches, answers);
+    let ran = rounds::run(n, t, votes, crashes, reaches, decisions.len(), rounds.len());
     let question = ran.question;
     if question != 0 {
         return Simulated::Refused(question);

@@ -7,3 +7,4 @@ pub mod Inverse
 pub mod Sizes
 pub mod Says
 pub mod Theorem
+pub mod Vectors

@@ -1,19 +1,20 @@
 -- The form of each line of a schedule text. A line that is not of its form has `wrong` here. What is read of it does not depend on what stands after it.
 use Prim.Native.Nat.{ℕ, _+_}
-use mathlib.Core.List.{List, [], _∷_}
+use mathlib.Core.List.{List}
 use mathlib.Core.Bool.{cond}
 use lib.Dec.{eqb}
+use Rattle.laws.specs.Quoted.{quoted}
 use Rattle.lines.specs.Lines.{lf}
 use Rattle.fields.specs.Found.{Found, found, wrong, thenRead}
 use Rattle.fields.specs.Fields.{space, numberField, digitField, reachField}
 
 -- "line 1 `n t`", with its LF
 abbrev pub sizesHeading : List ℕ
-sizesHeading = 110 ∷ 32 ∷ 116 ∷ 10 ∷ []
+sizesHeading = quoted "n t\n"
 
 -- "line 3 `id vote crash reach`", with its LF
 abbrev pub processesHeading : List ℕ
-processesHeading = 105 ∷ 100 ∷ 32 ∷ 118 ∷ 111 ∷ 116 ∷ 101 ∷ 32 ∷ 99 ∷ 114 ∷ 97 ∷ 115 ∷ 104 ∷ 32 ∷ 114 ∷ 101 ∷ 97 ∷ 99 ∷ 104 ∷ 10 ∷ []
+processesHeading = quoted "id vote crash reach\n"
 
 -- the values of line 2
 pub record Sizes : Type 0 where

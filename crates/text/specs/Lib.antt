@@ -3,3 +3,4 @@ pub mod Written
 pub mod Reading
 pub mod Output
 pub mod Facts
+pub mod Vectors

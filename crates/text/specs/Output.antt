@@ -1,9 +1,11 @@
 -- The report as bytes: what the program prints for a text, accepted or refused.
 use Prim.Native.Nat.{ℕ, _+_}
+use Prim.Native.Char.{code}
 use mathlib.Core.List.{List, [], _∷_, _++_}
 use mathlib.Core.Bool.{cond}
 use lib.ListN.{getD}
 use lib.Dec.{eqb}
+use Rattle.laws.specs.Quoted.{quoted}
 use Rattle.laws.specs.Answer.{Answer, accepted, refused}
 use Rattle.lines.specs.Lines.{lf, lineOf}
 use Rattle.fields.specs.Decimal.{letter}
@@ -16,19 +18,19 @@ use Rattle.text.specs.Reading.{textAnswer}
 
 -- `n t f first last messages`, with its LF
 abbrev pub countsHeading : List ℕ
-countsHeading = 110 ∷ 32 ∷ 116 ∷ 32 ∷ 102 ∷ 32 ∷ 102 ∷ 105 ∷ 114 ∷ 115 ∷ 116 ∷ 32 ∷ 108 ∷ 97 ∷ 115 ∷ 116 ∷ 32 ∷ 109 ∷ 101 ∷ 115 ∷ 115 ∷ 97 ∷ 103 ∷ 101 ∷ 115 ∷ 10 ∷ []
+countsHeading = quoted "n t f first last messages\n"
 
 -- `id decision round`, with its LF
 abbrev pub decisionsHeading : List ℕ
-decisionsHeading = 105 ∷ 100 ∷ 32 ∷ 100 ∷ 101 ∷ 99 ∷ 105 ∷ 115 ∷ 105 ∷ 111 ∷ 110 ∷ 32 ∷ 114 ∷ 111 ∷ 117 ∷ 110 ∷ 100 ∷ 10 ∷ []
+decisionsHeading = quoted "id decision round\n"
 
 -- `refused line`, with its LF
 abbrev pub refusedHeading : List ℕ
-refusedHeading = 114 ∷ 101 ∷ 102 ∷ 117 ∷ 115 ∷ 101 ∷ 100 ∷ 32 ∷ 108 ∷ 105 ∷ 110 ∷ 101 ∷ 10 ∷ []
+refusedHeading = quoted "refused line\n"
 
 -- "`-` is "none"", else the decision's digit
 unfoldable pub decisionLetter : ℕ → ℕ
-decisionLetter decision = cond (eqb decision 2) 45 (letter decision)
+decisionLetter decision = cond (eqb decision 2) (code "-") (letter decision)
 
 -- the line of values under the first heading
 unfoldable pub countsLine : ℕ → ℕ → Report → List ℕ

@@ -11,7 +11,7 @@ use Rattle.laws.specs.Answer.{ask}
 use Rattle.laws.proofs.Test.{and-left, was-false, was-true}
 use Rattle.member.specs.Opening.{largest}
 use Rattle.schedule.specs.Schedule.{Schedule, scheduleOf, crashesIn}
-use Rattle.schedule.specs.Questions.{tablesLong, question}
+use Rattle.schedule.specs.Questions.{tablesLong, answersOf, question}
 use Rattle.schedule.proofs.Accepted.{table-lengths}
 use Rattle.acceptance.proofs.InOrder.{number-of-sizes, number-3, number-of-process, past-processes}
 use Rattle.acceptance.proofs.question.Statement.{statement}
@@ -36,11 +36,11 @@ returns-2 : tie.Need-returns-2
 returns-2 c =
     let c1 = c .before .before in
     let a = c1 .before .before .before .before .before .args in
-    let h3 : tablesLong (given c1) && a .answers ≡ false = was-false (c .before .are-tables-long .ensures (given c1) refl refl refl refl) (c .if2 .taken) in
+    let h3 : tablesLong (given c1) && answersOf (a .n) (a .decisions) (a .rounds) ≡ false = was-false (c .before .are-tables-long .ensures (given c1) refl refl refl refl) (c .if2 .taken) in
     number-3 (given c1) _ _ _ (c1 .before .size-question .ensures) (c1 .if1 .left) h3
 
 -- question 3 is passed
-all-long : (c : tie.Else2) → tablesLong (given (c .before .before)) && c .before .before .before .before .before .before .before .args .answers ≡ true
+all-long : (c : tie.Else2) → let a = c .before .before .before .before .before .before .before .args in tablesLong (given (c .before .before)) && answersOf (a .n) (a .decisions) (a .rounds) ≡ true
 all-long c = was-true (c .before .are-tables-long .ensures (given (c .before .before)) refl refl refl refl) (c .if2 .left)
 
 lengths : (c : tie.Else2) → let s = given (c .before .before) in (length (s .votes) ≡ s .n) × (length (s .crashes) ≡ s .n) × (length (s .reaches) ≡ s .n)
@@ -59,7 +59,7 @@ crash-count-requires : tie.Need-crash-count-requires
 crash-count-requires c κs = search needs
 
 -- past the first six questions; the table of crash rounds is n long, so its count is f
-up-to-7 : (c : tie.After-crash-count) → let c1 = c .before .before .before .before .before in question (given c1) largest (c1 .before .before .before .before .before .args .answers) ≡ ask (leb (c .crash-count .result) (given c1 .t)) 7 0
+up-to-7 : (c : tie.After-crash-count) → let c1 = c .before .before .before .before .before in let a = c1 .before .before .before .before .before .args in question (given c1) largest (answersOf (a .n) (a .decisions) (a .rounds)) ≡ ask (leb (c .crash-count .result) (given c1 .t)) 7 0
 up-to-7 c =
     let c2 = c .before .before .before in
     let c1 = c2 .before .before in

@@ -16,20 +16,20 @@ returns : tie.Need-returns
 returns c =
     let a = c .before .before .before .before .before .before .args in
     let s = scheduleOf (a .n) (a .t) (now (a .votes)) (now (a .crashes)) (now (a .reaches)) in
-    refused-leaves s (a .answers) (c .before .before .question .ensures) (c .before .if1 .taken) (c .no-members .ensures)
+    refused-leaves s _ (c .before .before .question .ensures) (c .before .if1 .taken) (c .no-members .ensures)
 
 play-requires : tie.Need-play-requires
 play-requires c κs =
     let a = c .before .before .before .before .before .args in
     let s = scheduleOf (a .n) (a .t) (now (a .votes)) (now (a .crashes)) (now (a .reaches)) in
-    accepted-alone s (a .answers) (c .before .question .ensures) (c .if1 .left)
+    accepted-alone s _ (c .before .question .ensures) (c .if1 .left)
 
 returns-2 : tie.Need-returns-2
 returns-2 c =
     let a = c .before .before .before .before .before .before .before .args in
     let s = scheduleOf (a .n) (a .t) (now (a .votes)) (now (a .crashes)) (now (a .reaches)) in
     let left = c .before .play .ensures in
-    accepted-leaves s (a .answers) (c .before .before .before .question .ensures) (c .before .before .if1 .left) (left .0) (left .1)
+    accepted-leaves s _ (c .before .before .before .question .ensures) (c .before .before .if1 .left) (left .0) (left .1)
 
 pub run-spec : {M : Type 1} → statement M
 run-spec = tie.close (tie.spec question-requires no-members-requires returns play-requires returns-2)

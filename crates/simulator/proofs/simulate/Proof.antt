@@ -4,32 +4,33 @@ use native.Mathlib.Omega.{arith}
 use borrow.Author.Needs.{needs}
 use denote.Ref.{now}
 use Rattle.schedule.specs.Schedule.{scheduleOf}
-use Rattle.simulator.proofs.Whole.{left-is, refused-answer, kept-table, refused-keeps, tables-long, small, completed-answer, given-decisions, given-rounds, completed-keeps}
+use Rattle.simulator.proofs.Whole.{refused-answer, kept-table, refused-keeps, tables-long, small, completed-answer, given-decisions, given-rounds, completed-keeps}
 use Rattle.simulator.proofs.simulate.Statement.{statement}
 use Rattle.simulator.proofs.simulate.Tie as tie
-
-are-long-requires : tie.Need-are-long-requires
-are-long-requires c κs = search needs
 
 run-requires : tie.Need-run-requires
 run-requires c κs = search needs
 
 returns : tie.Need-returns
 returns c =
-    let a = c .before .before .before .before .before .before .before .before .args in
+    let a = c .before .before .before .before .before .before .before .args in
     let s = scheduleOf (a .n) (a .t) (now (a .votes)) (now (a .crashes)) (now (a .reaches)) in
-    let left = left-is s (now (a .decisions)) (now (a .rounds)) (c .before .before .are-long .ensures) (c .before .run .ensures) in (
-      refused-answer s _ _ left (c .if1 .taken),
-      (kept-table s _ _ left (c .if1 .taken) _ _, (kept-table s _ _ left (c .if1 .taken) _ _, refused-keeps s _ _ left (c .if1 .taken))),
+    let d = now (a .decisions) in
+    let r = now (a .rounds) in
+    let left = c .before .run .ensures in (
+      refused-answer s d r left (c .if1 .taken),
+      (kept-table s d r left (c .if1 .taken) _ _, (kept-table s d r left (c .if1 .taken) _ _, refused-keeps s d r left (c .if1 .taken))),
     )
 
 fill-requires : tie.Need-fill-requires
 fill-requires c κs =
-    let a = c .before .before .before .before .before .before .before .before .before .before .before .args in
+    let a = c .before .before .before .before .before .before .before .before .before .before .args in
     let s = scheduleOf (a .n) (a .t) (now (a .votes)) (now (a .crashes)) (now (a .reaches)) in
-    let left = left-is s (now (a .decisions)) (now (a .rounds)) (c .before .before .before .before .before .are-long .ensures) (c .before .before .before .before .run .ensures) in
-    let long = tables-long s _ _ left (c .before .before .before .if1 .left) in
-    let n-high = small s _ _ left (c .before .before .before .if1 .left) in
+    let d = now (a .decisions) in
+    let r = now (a .rounds) in
+    let left = c .before .before .before .before .run .ensures in
+    let long = tables-long s d r left (c .before .before .before .if1 .left) in
+    let n-high = small s d r left (c .before .before .before .if1 .left) in
     (omega arith, omega arith)
 
 counts-of-requires : tie.Need-counts-of-requires
@@ -43,19 +44,21 @@ same-length-2 c = search needs
 
 returns-2 : tie.Need-returns-2
 returns-2 c =
-    let a = c .before .before .before .before .before .before .before .before .before .before .before .before .before .before .before .before .before .before .args in
+    let a = c .before .before .before .before .before .before .before .before .before .before .before .before .before .before .before .before .before .args in
     let s = scheduleOf (a .n) (a .t) (now (a .votes)) (now (a .crashes)) (now (a .reaches)) in
-    let left = left-is s (now (a .decisions)) (now (a .rounds)) (c .before .before .before .before .before .before .before .before .before .before .before .before .are-long .ensures) (c .before .before .before .before .before .before .before .before .before .before .before .run .ensures) in
+    let d = now (a .decisions) in
+    let r = now (a .rounds) in
+    let left = c .before .before .before .before .before .before .before .before .before .before .before .run .ensures in
     let accepting = c .before .before .before .before .before .before .before .before .before .before .if1 .left in
     let filled = c .before .before .before .before .before .before .fill .ensures in
     let found = c .counts-of .ensures in (
-      completed-answer s _ _ left accepting (filled .0) (filled .1) found,
+      completed-answer s d r left accepting (filled .0) (filled .1) found,
       (
-        given-decisions s _ _ left accepting (filled .0) (filled .1) found,
-        (given-rounds s _ _ left accepting (filled .0) (filled .1) found, completed-keeps s _ _ left accepting (filled .0) (filled .1) found),
+        given-decisions s d r left accepting (filled .0) (filled .1) found,
+        (given-rounds s d r left accepting (filled .0) (filled .1) found, completed-keeps s d r left accepting (filled .0) (filled .1) found),
       ),
     )
 
 pub simulate-spec : {M : Type 1} → statement M
 simulate-spec =
-    tie.close (tie.spec are-long-requires run-requires returns fill-requires counts-of-requires same-length same-length-2 returns-2)
+    tie.close (tie.spec run-requires returns fill-requires counts-of-requires same-length same-length-2 returns-2)

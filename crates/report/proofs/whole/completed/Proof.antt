@@ -1,10 +1,12 @@
 -- `completed` meets its contract: an accepted schedule is not refused, so the simulator gives the counts and tables of its report, and these are written
 -- into a buffer that is long enough. Assumes nothing.
 use mathlib.Core.Path.{_≡_, sym, ap, _∙_, subst}
+use mathlib.Core.List.{List}
 use Prim.Native.Nat.{ℕ, _^_, _≤_, _<_}
 use native.Mathlib.Omega.{arith}
 use borrow.Author.Needs.{needs}
 use lib.ListN.{length, getD}
+use denote.Ref.{now}
 use Rattle.laws.specs.Answer.{accepted}
 use Rattle.laws.proofs.Answer.{not-accepted}
 use Rattle.member.specs.Opening.{largest}
@@ -45,16 +47,23 @@ given c =
     let a = c .before .before .before .before .before .before .before .before .before .args in
     scheduleOf (a .n) (a .t) (a .votes .now) (a .crashes .now) (a .reaches .now)
 
+-- and the two tables that are lent for it
+abbrev lentDecisions : tie.After-simulate → List ℕ
+lentDecisions c = now (c .before .before .before .before .before .before .before .before .before .args .decisions)
+
+abbrev lentRounds : tie.After-simulate → List ℕ
+lentRounds c = now (c .before .before .before .before .before .before .before .before .before .args .rounds)
+
 -- it is accepted, so the simulator gives the counts of its report
 counted : (c : tie.After-simulate) → simulatedIs (c .simulate .result) ≡ accepted (countsOf (report fcwfa (given c)))
-counted c = c .simulate .ensures .0 ∙ counts-given largest (given c) _ _ (c .before .before .before .before .before .before .before .before .before .pre)
+counted c = c .simulate .ensures .0 ∙ counts-given largest (given c) (lentDecisions c) (lentRounds c) (c .before .before .before .before .before .before .before .before .before .pre)
 
 -- and its tables
 decided : (c : tie.After-simulate) → c .simulate .last .1 .1 .1 .1 .1 .0 ≡ report fcwfa (given c) .decisions
-decided c = c .simulate .ensures .1 .0 ∙ table-given largest (given c) _ _ (c .before .before .before .before .before .before .before .before .before .pre) _ _
+decided c = c .simulate .ensures .1 .0 ∙ table-given largest (given c) (lentDecisions c) (lentRounds c) (c .before .before .before .before .before .before .before .before .before .pre) _ (lentDecisions c)
 
 timed : (c : tie.After-simulate) → c .simulate .last .1 .1 .1 .1 .1 .1 .0 ≡ report fcwfa (given c) .rounds
-timed c = c .simulate .ensures .1 .1 .0 ∙ table-given largest (given c) _ _ (c .before .before .before .before .before .before .before .before .before .pre) _ _
+timed c = c .simulate .ensures .1 .1 .0 ∙ table-given largest (given c) (lentDecisions c) (lentRounds c) (c .before .before .before .before .before .before .before .before .before .pre) _ (lentRounds c)
 
 returns : tie.Need-returns
 returns c = absurd (not-accepted (sym (ap simulatedIs (c .enum-told .given .1)) ∙ counted (c .before .before .before .before .before .before)))

@@ -6,7 +6,7 @@ use lib.Seq.{length-take-le}
 use Rattle.member.specs.Opening.{largest}
 use Rattle.schedule.specs.Schedule.{scheduleOf}
 use Rattle.schedule.specs.Questions.{question}
-use Rattle.report.proofs.Texts.{answers-long}
+use Rattle.schedule.proofs.Accepted.{answers-long}
 use Rattle.report.proofs.whole.of_tables.Statement.{statement}
 use Rattle.report.proofs.whole.of_tables.Tie as tie
 

@@ -1,0 +1,163 @@
+-- Calls of a member with their answers, written from document 01 by hand, and the statement that covers them. Proved in proofs/Vectors.antt:
+-- `member-vectors : MemberVectors`, by computing what the definitions give.
+use Prim.Native.Nat.{ℕ}
+use mathlib.Core.Path.{_≡_}
+use mathlib.Core.List.{List, [], _∷_, map}
+use Rattle.laws.specs.Answer.{Answer, accepted, refused}
+use Rattle.member.specs.declared.Member.{Member}
+use Rattle.member.specs.Opening.{largest}
+use Rattle.member.specs.Answers.{openAnswer, sayAnswer, hearAnswer}
+
+-- "The state is n, t, own number, the round to play next, the estimate (0 or 1), and the decided round (0 while undecided)."
+abbrev pub state : ℕ → ℕ → ℕ → ℕ → ℕ → ℕ → Member
+state n t id round estimate decided = record { n = n; t = t; id = id; round = round; estimate = estimate; decided = decided }
+
+-- an opening with n, t, own number and vote
+pub record OpenCall : Type 0 where
+  pub n : ℕ
+  pub t : ℕ
+  pub id : ℕ
+  pub vote : ℕ
+  pub answer : Answer Member (Unit {0})
+
+abbrev pub opens : ℕ → ℕ → ℕ → ℕ → Member → OpenCall
+opens n t id vote m = record { n = n; t = t; id = id; vote = vote; answer = accepted m }
+
+abbrev pub opensNot : ℕ → ℕ → ℕ → ℕ → ℕ → OpenCall
+opensNot n t id vote number = record { n = n; t = t; id = id; vote = vote; answer = refused number tt }
+
+abbrev pub openings : List OpenCall
+openings =
+    -- "Opening: round 1, estimate = vote, undecided.", for the smallest and the largest n, t and own number
+    opens 4 3 1 1 (state 4 3 1 1 1 0) ∷
+    opens 32 31 32 0 (state 32 31 32 1 0 0) ∷
+    -- "n from 4 to 32? 1": with t = 2 too
+    opensNot 3 2 1 1 1 ∷
+    opensNot 33 2 1 1 1 ∷
+    -- "t from 3 to n − 1? 2": with own number 0 too
+    opensNot 4 2 0 1 2 ∷
+    opensNot 4 4 0 1 2 ∷
+    -- "own number from 1 to n? 10": with vote 2 too
+    opensNot 4 3 0 2 10 ∷
+    opensNot 4 3 5 2 10 ∷
+    -- "vote 0 or 1? 4"
+    opensNot 4 3 4 2 4 ∷
+    []
+
+-- what a member says
+pub record SayCall : Type 0 where
+  pub member : Member
+  pub answer : Answer ℕ (Unit {0})
+
+abbrev pub speaks : Member → ℕ → SayCall
+speaks m code = record { member = m; answer = accepted code }
+
+abbrev pub outOfRange : Member → SayCall
+outOfRange m = record { member = m; answer = refused 11 tt }
+
+abbrev pub sayings : List SayCall
+sayings =
+    -- "1 estimate 0, 2 estimate 1": undecided in the first and the last round
+    speaks (state 4 3 4 1 0 0) 1 ∷
+    speaks (state 4 3 4 4 1 0) 2 ∷
+    -- "3 decided 0, 4 decided 1": decided in 2, the smallest, with round d + 1, and in 3
+    speaks (state 4 3 4 3 0 2) 3 ∷
+    speaks (state 4 3 4 4 1 3) 4 ∷
+    -- "0 nothing": "Stopped means: round t + 2, or decided in d with round d + 2."
+    speaks (state 4 3 4 4 1 2) 0 ∷
+    speaks (state 4 3 4 5 1 4) 0 ∷
+    -- undecided with a round from 1 to t + 1, so not with 0 or t + 2
+    outOfRange (state 4 3 4 0 1 0) ∷
+    outOfRange (state 4 3 4 5 1 0) ∷
+    -- decided in d from 2 to t + 1, so not in 1 or t + 2
+    outOfRange (state 4 3 4 2 1 1) ∷
+    outOfRange (state 4 3 4 6 1 5) ∷
+    -- with a round of d + 1 or d + 2, so not with d or d + 3, at most t + 2
+    outOfRange (state 4 3 4 2 1 2) ∷
+    outOfRange (state 4 3 4 5 1 2) ∷
+    outOfRange (state 4 3 4 6 1 4) ∷
+    -- n, t, own number and estimate within their limits
+    outOfRange (state 3 2 1 1 1 0) ∷
+    outOfRange (state 33 3 4 1 1 0) ∷
+    outOfRange (state 4 2 4 1 1 0) ∷
+    outOfRange (state 4 4 4 1 1 0) ∷
+    outOfRange (state 4 3 0 1 1 0) ∷
+    outOfRange (state 4 3 5 1 1 0) ∷
+    outOfRange (state 4 3 4 1 2 0) ∷
+    []
+
+-- what a row makes of a member
+pub record HearCall : Type 0 where
+  pub member : Member
+  pub row : List ℕ
+  pub answer : Answer Member Member
+
+-- n = 5, t = 4, and own number 2: in this round, with this estimate and this decided round
+abbrev pub two : ℕ → ℕ → ℕ → Member
+two round estimate decided = state 5 4 2 round estimate decided
+
+abbrev pub five : ℕ → ℕ → ℕ → ℕ → ℕ → List ℕ
+five a b c d e = a ∷ b ∷ c ∷ d ∷ e ∷ []
+
+abbrev pub moves : Member → List ℕ → Member → HearCall
+moves m row next = record { member = m; row = row; answer = accepted next }
+
+-- "a refused hearing returns its number and the state given"
+abbrev pub refuses : Member → List ℕ → ℕ → HearCall
+refuses m row number = record { member = m; row = row; answer = refused number m }
+
+abbrev pub hearings : List HearCall
+hearings =
+    -- "r = 1: fewer than n estimates, or any estimate 0, makes its estimate 0."
+    moves (two 1 1 0) (five 2 2 2 2 2) (two 2 1 0) ∷
+    moves (two 1 1 0) (five 2 2 2 2 0) (two 2 0 0) ∷
+    moves (two 1 1 0) (five 2 2 2 2 1) (two 2 0 0) ∷
+    -- "r ≥ 2, some code 3 or 4: it takes that value and decides in r."
+    moves (two 3 1 0) (five 2 2 3 0 0) (two 4 0 3) ∷
+    moves (two 3 0 0) (five 0 1 4 0 0) (two 4 1 3) ∷
+    -- "r = 2 and all estimates heard are 0", with two missing, and the same row in r = 3
+    moves (two 2 0 0) (five 1 1 0 0 1) (two 3 0 2) ∷
+    moves (two 3 0 0) (five 1 1 0 0 1) (two 4 0 0) ∷
+    -- "any estimate 0 makes its estimate 0", and one zero decides nothing
+    moves (two 2 1 0) (five 1 2 2 2 0) (two 3 0 0) ∷
+    -- "r ≤ t − 1 and at most r − 2 processes sent no estimate": none and one in r = 2, one and two in r = 3
+    moves (two 2 1 0) (five 2 2 2 2 2) (two 3 1 2) ∷
+    moves (two 2 1 0) (five 2 2 2 2 0) (two 3 1 0) ∷
+    moves (two 3 1 0) (five 2 2 2 2 0) (two 4 1 3) ∷
+    moves (two 3 1 0) (five 2 2 2 0 0) (two 4 1 0) ∷
+    -- with an estimate 0 among them it decides 0
+    moves (two 3 1 0) (five 1 2 2 2 0) (two 4 0 3) ∷
+    -- "r = t and at least n − t + 1 estimates": two and one in r = 4
+    moves (two 4 1 0) (five 0 2 2 0 0) (two 5 1 4) ∷
+    moves (two 4 1 0) (five 0 2 0 0 0) (two 5 1 0) ∷
+    -- "r = t + 1"
+    moves (two 5 1 0) (five 0 2 0 0 0) (two 6 1 5) ∷
+    -- "A decided member changes nothing else."
+    moves (two 3 1 2) (five 1 4 1 0 4) (two 4 1 2) ∷
+    moves (two 3 0 2) (five 2 3 2 2 2) (two 4 0 2) ∷
+    -- "11": decided in 1, and stopped
+    refuses (two 3 1 1) [] 11 ∷
+    -- "not stopped? 12": with a row that is not n long
+    refuses (two 4 1 2) [] 12 ∷
+    refuses (two 6 1 5) [] 12 ∷
+    -- "row n long? 13": with a code 5
+    refuses (two 2 1 0) (2 ∷ 2 ∷ 2 ∷ 5 ∷ []) 13 ∷
+    refuses (two 2 1 0) (2 ∷ 2 ∷ 2 ∷ 2 ∷ 2 ∷ 5 ∷ []) 13 ∷
+    -- "every code 0 to 4? 14": with another code in the own place
+    refuses (two 2 1 0) (five 2 1 5 2 2) 14 ∷
+    -- "own place equal to what it says now? 15": with a code 3 in round 2
+    refuses (two 2 1 0) (five 2 1 3 2 2) 15 ∷
+    refuses (two 3 1 2) (five 2 2 4 2 2) 15 ∷
+    -- "no code 3 or 4 in rounds 1 and 2? 16": with both in round 2, and with one of them in each round
+    refuses (two 2 1 0) (five 2 2 3 4 2) 16 ∷
+    refuses (two 2 1 0) (five 2 2 3 2 2) 16 ∷
+    refuses (two 1 1 0) (five 2 2 2 2 4) 16 ∷
+    -- "not both 3 and 4? 17"
+    refuses (two 3 1 0) (five 2 2 3 4 2) 17 ∷
+    []
+
+-- each of these calls has its answer
+pub record MemberVectors : Type 0 where
+  pub opened : map (λ o. openAnswer largest (o .n) (o .t) (o .id) (o .vote)) openings ≡ map (λ o. o .answer) openings
+  pub said : map (λ s. sayAnswer largest (s .member)) sayings ≡ map (λ s. s .answer) sayings
+  pub heard : map (λ h. hearAnswer largest (h .member) (h .row)) hearings ≡ map (λ h. h .answer) hearings

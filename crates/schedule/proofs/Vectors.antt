@@ -1,0 +1,12 @@
+-- The schedules of specs/Vectors.antt: what their questions come to is computed, for all at once. Assumes nothing.
+use mathlib.Core.Path.{refl}
+use Rattle.laws.specs.Test.{within}
+use Rattle.laws.specs.Below.{sum, count, fold}
+use Rattle.laws.specs.Answer.{ask, andThen, askEach}
+use Rattle.schedule.specs.Schedule.{names, crashesIn}
+use Rattle.schedule.specs.Questions.{reachRight, entryQuestion, tablesOf, answersOf, question}
+use Rattle.schedule.specs.Vectors.{ScheduleVectors}
+
+pub schedule-vectors : ScheduleVectors
+unfolding within sum count fold ask andThen askEach names crashesIn reachRight entryQuestion tablesOf answersOf question
+schedule-vectors = refl

@@ -1,0 +1,76 @@
+-- Schedules in tables with the number that their questions come to, written from document 01 by hand, and the statement that covers them. Proved in
+-- proofs/Vectors.antt: `schedule-vectors : ScheduleVectors`, by computing what the definitions give.
+use Prim.Native.Nat.{ℕ}
+use mathlib.Core.Path.{_≡_}
+use mathlib.Core.List.{List, [], _∷_, map}
+use lib.ListN.{replicate}
+use Rattle.member.specs.Opening.{largest}
+use Rattle.schedule.specs.Four.{four, allOne, allZero}
+use Rattle.schedule.specs.Schedule.{Schedule, scheduleOf}
+use Rattle.schedule.specs.Questions.{answersOf, question}
+
+-- a schedule, the lengths of the answer tables of the call, and the number; 0 for one that passes
+pub record Asked : Type 0 where
+  pub schedule : Schedule
+  pub decisions : ℕ
+  pub rounds : ℕ
+  pub number : ℕ
+
+-- "n = 4, t = 3": with these tables and two answer tables of four
+abbrev pub asked : List ℕ → List ℕ → List ℕ → ℕ → Asked
+asked votes crashes reaches number = record { schedule = scheduleOf 4 3 votes crashes reaches; decisions = 4; rounds = 4; number = number }
+
+-- n processes that vote 1 and do not crash, with answer tables of n
+abbrev pub quietCluster : ℕ → ℕ → ℕ → Asked
+quietCluster n t number = record {
+  schedule = scheduleOf n t (replicate n 1) (replicate n 0) (replicate n 0);
+  decisions = n;
+  rounds = n;
+  number = number;
+}
+
+-- a table of three, which is too short, and one of five
+abbrev pub three : List ℕ
+three = 2 ∷ 2 ∷ 2 ∷ []
+
+abbrev pub five : List ℕ
+five = 2 ∷ 2 ∷ 2 ∷ 2 ∷ 2 ∷ []
+
+abbrev pub vectors : List Asked
+vectors =
+    -- "n from 4 to 32? 1": 3 with t = 2 too, 33 with t = 33 too, and both ends pass
+    quietCluster 3 2 1 ∷
+    quietCluster 33 33 1 ∷
+    quietCluster 4 3 0 ∷
+    quietCluster 32 31 0 ∷
+    -- "t from 3 to n − 1? 2": with tables of another length too
+    record { schedule = scheduleOf 4 2 three three three; decisions = 3; rounds = 3; number = 2 } ∷
+    record { schedule = scheduleOf 4 4 five five five; decisions = 5; rounds = 5; number = 2 } ∷
+    -- "Each of the three input and two answer tables n long? 3": one of them too short or too long, the others with a vote 2
+    asked three allZero allZero 3 ∷
+    asked five allZero allZero 3 ∷
+    asked (four 2 1 1 1) three allZero 3 ∷
+    asked (four 2 1 1 1) five allZero 3 ∷
+    asked (four 2 1 1 1) allZero three 3 ∷
+    asked (four 2 1 1 1) allZero five 3 ∷
+    record { schedule = scheduleOf 4 3 (four 2 1 1 1) allZero allZero; decisions = 3; rounds = 4; number = 3 } ∷
+    record { schedule = scheduleOf 4 3 (four 2 1 1 1) allZero allZero; decisions = 4; rounds = 5; number = 3 } ∷
+    -- "vote 0 or 1? 4; crash round at most t + 1? 5; reach as ruled above? 6": process 2 with vote 2, crash round 5 and itself in its reach, and with less of that
+    asked (four 1 2 1 1) (four 0 5 0 0) (four 0 2 0 0) 4 ∷
+    asked (four 1 1 1 1) (four 0 5 0 0) (four 0 2 0 0) 5 ∷
+    asked (four 1 1 1 1) (four 0 4 0 0) (four 0 2 0 0) 6 ∷
+    asked (four 1 0 1 1) (four 0 4 0 0) (four 0 13 0 0) 0 ∷
+    -- "A reach names only processes 1 to n, .. and nobody where the crash round is 0."
+    asked allOne (four 0 1 0 0) (four 0 16 0 0) 6 ∷
+    asked allOne allZero (four 0 1 0 0) 6 ∷
+    -- "For each process in order": the reach of process 2 before the vote of process 3
+    asked (four 1 1 2 1) (four 0 1 0 0) (four 0 2 0 0) 6 ∷
+    -- "Then: f at most t? 7": four crashes, with a vote 2 of the last process, without it, and three crashes
+    asked (four 1 1 1 2) (four 1 2 3 4) allZero 4 ∷
+    asked allOne (four 1 2 3 4) allZero 7 ∷
+    asked allOne (four 1 2 3 0) allZero 0 ∷
+    []
+
+-- the questions of each come to its number
+abbrev pub ScheduleVectors : Type 0
+ScheduleVectors = map (λ a. question (a .schedule) largest (answersOf (a .schedule .n) (a .decisions) (a .rounds))) vectors ≡ map (λ a. a .number) vectors

@@ -1,0 +1,33 @@
+-- The texts of specs/Vectors.antt: what the definitions print for them is computed, for all at once. Assumes nothing.
+use mathlib.Core.Path.{_≡_, refl}
+use lib.Count.{ones, onesIn}
+use Rattle.laws.specs.Test.{within}
+use Rattle.laws.specs.Below.{sum, count, tabulate, fold}
+use Rattle.laws.specs.Answer.{ask, answer, andNext, nextEach}
+use Rattle.lines.specs.Lines.{lineLength, afterLine, afterLines, lineOf}
+use Rattle.fields.specs.Found.{thenRead}
+use Rattle.fields.specs.Decimal.{isDigit, decimalIn, decimal}
+use Rattle.fields.specs.Fields.{startsWith, hasByte, ended, numberField, digitField, reachField}
+use Rattle.member.specs.State.{stopped}
+use Rattle.member.specs.Saying.{says}
+use Rattle.member.specs.Hearing.{codes, told, zerosOnly, quiet, enough, ruleMet, firstEstimate, lowered, toldValue, byRule, becomes}
+use Rattle.schedule.specs.Schedule.{names, crashesIn}
+use Rattle.schedule.specs.Questions.{reachRight, entryQuestion}
+use Rattle.run.specs.Run.{completesRound, isHeard, delivered, codeHeard, rowOf, stateAfter, nextState, played, opened, statesAfter, final}
+use Rattle.run.specs.Report.{sentBy, messages, decisionOf, before, firstWith, firstOf, lastOf}
+use Rattle.text.specs.Forms.{sizesAt, entryAt}
+use Rattle.text.specs.Written.{field, eachLine}
+use Rattle.text.specs.Reading.{onLine, scheduleIn, entryQuestions, textQuestions, textAnswer}
+use Rattle.text.specs.Output.{decisionLetter, countsLine, decisionLine, decisionLines, reportText, refusalText, outputOf}
+use Rattle.text.specs.Vectors.{TextVectors, LengthVectors}
+
+pub text-vectors : TextVectors
+unfolding ones onesIn within sum count tabulate fold ask answer andNext nextEach lineLength afterLine afterLines lineOf thenRead isDigit decimalIn decimal startsWith hasByte ended numberField digitField reachField stopped says codes told zerosOnly quiet enough ruleMet firstEstimate lowered toldValue byRule becomes names crashesIn reachRight entryQuestion completesRound isHeard delivered codeHeard rowOf stateAfter nextState played opened statesAfter final sentBy messages decisionOf before firstWith firstOf lastOf sizesAt entryAt field eachLine onLine scheduleIn entryQuestions textQuestions textAnswer decisionLetter countsLine decisionLine decisionLines reportText refusalText outputOf
+text-vectors = refl
+
+pub length-vectors : LengthVectors
+unfolding ask answer andNext lineLength afterLines lineOf decimalIn decimal startsWith field onLine textQuestions textAnswer refusalText outputOf
+length-vectors = record {
+  too-long = λ text e. rw e;
+  long = λ rest e. rw e;
+}

@@ -1,0 +1,75 @@
+-- Texts with their whole output, written from document 01 by hand, and the statements that cover them. Proved in proofs/Vectors.antt:
+-- `text-vectors : TextVectors` and `length-vectors : LengthVectors`, each by computing what the definitions give.
+use Prim.Native.Nat.{ℕ}
+use Prim.Native.String.{String}
+use mathlib.Core.Path.{_≡_}
+use mathlib.Core.List.{List, [], _∷_, map}
+use lib.ListN.{length}
+use Rattle.laws.specs.Quoted.{quoted}
+use Rattle.lines.specs.Lines.{lf}
+use Rattle.member.specs.Opening.{largest}
+use Rattle.text.specs.Reading.{longest}
+use Rattle.text.specs.Output.{outputOf}
+
+-- a text, and what is printed for it
+pub record Printed : Type 0 where
+  pub text : String
+  pub output : String
+
+abbrev pub prints : String → String → Printed
+prints text output = record { text = text; output = output }
+
+abbrev pub vectors : List Printed
+vectors =
+    -- "Case D, text and whole report"
+    prints "n t\n4 3\nid vote crash reach\n1 1 1 0100\n2 1 0 0000\n3 1 0 0000\n4 1 0 0000\n"
+    "n t f first last messages\n4 3 1 2 3 49\nid decision round\n1 - 0\n2 0 3\n3 0 3\n4 0 3\n" ∷
+    -- case E, "-, -, 1@4, -, 31": "1: 1/0110; 4: 2/0100; 2: 3/0000"
+    prints "n t\n4 3\nid vote crash reach\n1 1 1 0110\n2 1 3 0000\n3 1 0 0000\n4 1 2 0100\n"
+    "n t f first last messages\n4 3 3 3 4 31\nid decision round\n1 - 0\n2 - 0\n3 1 4\n4 - 0\n" ∷
+    -- numbers of two and three digits: the last of ten processes votes 0, and each sends ten messages in three rounds
+    prints "n t\n10 3\nid vote crash reach\n1 1 0 0000000000\n2 1 0 0000000000\n3 1 0 0000000000\n4 1 0 0000000000\n5 1 0 0000000000\n6 1 0 0000000000\n7 1 0 0000000000\n8 1 0 0000000000\n9 1 0 0000000000\n10 0 0 0000000000\n"
+    "n t f first last messages\n10 3 0 1 2 300\nid decision round\n1 0 2\n2 0 2\n3 0 2\n4 0 2\n5 0 2\n6 0 2\n7 0 2\n8 0 2\n9 0 2\n10 0 2\n" ∷
+    -- "An empty text prints `9 1` in the second."
+    prints "" "refused line\n9 1\n\n" ∷
+    -- line 1 "compared letter for letter"; line 2 would get 1
+    prints "n  t\n3 3\n" "refused line\n9 1\nn  t\n" ∷
+    -- "a line without LF is not of its form"
+    prints "n t" "refused line\n9 1\nn t\n" ∷
+    -- line 2 "without a leading zero"; line 3 would get 9
+    prints "n t\n04 3\nid\n" "refused line\n9 2\n04 3\n" ∷
+    -- "on line 2 then 1, 2": n = 3 with t = 9, n = 33 of at most 32, and n = 32 with t = 31, where "a missing line is refused with 9 under its line number"
+    prints "n t\n3 9\nid\n" "refused line\n1 2\n3 9\n" ∷
+    prints "n t\n33 32\nid\n" "refused line\n1 2\n33 32\n" ∷
+    prints "n t\n32 31\nid vote crash reach\n" "refused line\n9 4\n\n" ∷
+    -- t = 4 and t = 2 at n = 4; line 3 would get 9
+    prints "n t\n4 4\nid\n" "refused line\n2 2\n4 4\n" ∷
+    prints "n t\n4 2\nid\n" "refused line\n2 2\n4 2\n" ∷
+    -- line 3 "compared letter for letter"; line 4 would get 4
+    prints "n t\n4 3\nid vote crash reads\n1 2 0 0000\n" "refused line\n9 3\nid vote crash reads\n" ∷
+    -- "its own number": process 2 stands on line 5
+    prints "n t\n4 3\nid vote crash reach\n1 1 0 0000\n3 1 0 0000\n" "refused line\n9 5\n3 1 0 0000\n" ∷
+    -- "one digit for the vote", "a reach of n letters 0 or 1"
+    prints "n t\n4 3\nid vote crash reach\n1 10 0 0000\n" "refused line\n9 4\n1 10 0 0000\n" ∷
+    prints "n t\n4 3\nid vote crash reach\n1 1 1 0200\n" "refused line\n9 4\n1 1 1 0200\n" ∷
+    prints "n t\n4 3\nid vote crash reach\n1 1 1 01000\n" "refused line\n9 4\n1 1 1 01000\n" ∷
+    -- "on a process's line then 4, 5, 6": process 2 with vote 2, crash round 5 and itself in its reach gets 4, and with less of that 5 and 6; each time line 4 is
+    -- right, and line 6 would get a number that is asked before
+    prints "n t\n4 3\nid vote crash reach\n1 1 0 0000\n2 2 5 0100\n3 1 0 000\n" "refused line\n4 5\n2 2 5 0100\n" ∷
+    prints "n t\n4 3\nid vote crash reach\n1 1 0 0000\n2 1 5 0100\n3 2 0 0000\n" "refused line\n5 5\n2 1 5 0100\n" ∷
+    prints "n t\n4 3\nid vote crash reach\n1 1 0 0000\n2 1 4 0100\n3 1 5 0000\n" "refused line\n6 5\n2 1 4 0100\n" ∷
+    -- "Nothing after line n + 3? 9, line n + 4. Then 7, line n + 3.": of four crashes
+    prints "n t\n4 3\nid vote crash reach\n1 1 1 0000\n2 1 1 0000\n3 1 1 0000\n4 1 1 0000\n5\n" "refused line\n9 8\n5\n" ∷
+    prints "n t\n4 3\nid vote crash reach\n1 1 1 0000\n2 1 1 0000\n3 1 1 0000\n4 1 1 0000\n" "refused line\n7 7\n4 1 1 0000\n" ∷
+    prints "n t\n4 3\nid vote crash reach\n1 1 1 0000\n2 1 1 0000\n3 1 1 0000\n4 1 1 0000" "refused line\n9 7\n4 1 1 0000\n" ∷
+    []
+
+-- each of these texts prints its output
+abbrev pub TextVectors : Type 0
+TextVectors = map (λ v. outputOf (quoted (v .text)) largest longest) vectors ≡ map (λ v. quoted (v .output)) vectors
+
+pub record LengthVectors : Type 0 where
+  -- "At most 2,048 bytes? 8, line 0.": any text of 2,049 bytes
+  pub too-long : (text : List ℕ) → length text ≡ 2049 → outputOf text largest longest ≡ quoted "refused line\n8 0\n\n"
+  -- any text of 2,048 bytes gets past that question: here to line 1, which is empty
+  pub long : (rest : List ℕ) → length rest ≡ 2047 → outputOf (lf ∷ rest) largest longest ≡ quoted "refused line\n9 1\n\n"
