@@ -1,2 +1,1 @@
-pub mod Reach
 pub mod InOrder

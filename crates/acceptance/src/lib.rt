@@ -4,7 +4,7 @@
 // `question` gives the number of the first question whose answer is no, or 0, and serves calls that
 // take answer tables too; `accepts` answers for the three input tables alone. `size_question` asks about
 // n and t, `process_question` about the values of one process. `crash_count` reads a table of crash
-// rounds, `is_named` a reach. Each takes anything and answers what the definitions of the crate
+// rounds. Each takes anything and answers what the definitions of the crate
 // `schedule` give; none has a `requires`.
 mod process;
 mod tables;
@@ -12,17 +12,17 @@ mod tables;
 pub use process::process_question;
 ghost use mathlib.Core.Path.{_≡_};
 ghost use lib.ListN.{length};
-ghost use Rattle.member.specs.Opening.{largest, sizeQuestions};
-ghost use Rattle.schedule.specs.Schedule.{scheduleOf, names, crashesIn};
+ghost use Rattle.sets.specs.Largest.{largest};
+ghost use Rattle.member.specs.Opening.{sizeQuestions};
+ghost use Rattle.schedule.specs.Schedule.{scheduleOf, crashesIn};
 ghost use Rattle.schedule.specs.Questions.{answersOf, question as Questions·question};
 ghost use Rattle.acceptance.specs.Answers.{acceptanceIs, acceptAnswer};
 use crate::tables::are_tables_long;
 use crate::tables::processes_question;
 use laws::bit;
 use laws::is_within;
-
-// The largest n that is accepted.
-const LARGEST: usize = 32;
+use sets::Set;
+use sets::WIDTH;
 
 // Every question is answered by yes, or the number of the first question whose answer is no.
 pub enum Acceptance {
@@ -44,22 +44,11 @@ pub fn crash_count(crashes: &[u8]) -> usize
     f
 }
 
-// Whether the reach names the process at place i: bit i stands for process i + 1. There are 32 bits,
-// so nobody at a place above 31 is named.
-pub fn is_named(reach: u32, i: usize) -> bool
-    ensures tested { λ r. ⌜ r ≡ names reach i ⌝ }
-{
-    if 31 < i {
-        return false;
-    }
-    (reach >> (i as u32)) & 1 == 1
-}
-
 // The number of the first question about n and t whose answer is no, or 0.
 pub fn size_question(n: usize, t: usize) -> u8
     ensures asked { λ r. ⌜ r ≡ sizeQuestions largest n t 0 ⌝ }
 {
-    if !is_within(4, n, LARGEST) {
+    if !is_within(4, n, WIDTH) {
         return 1;
     }
     let below = n - 1;
@@ -76,7 +65,7 @@ pub fn question(
     t: usize,
     votes: &[u8],
     crashes: &[u8],
-    reaches: &[u32],
+    reaches: &[Set],
     decisions: usize,
     rounds: usize,
 ) -> u8
@@ -108,7 +97,7 @@ pub fn question(
 }
 
 // Acceptance alone: the call takes no answer tables.
-pub fn accepts(n: usize, t: usize, votes: &[u8], crashes: &[u8], reaches: &[u32]) -> Acceptance
+pub fn accepts(n: usize, t: usize, votes: &[u8], crashes: &[u8], reaches: &[Set]) -> Acceptance
     ensures answered { λ r. ⌜ acceptanceIs r ≡ acceptAnswer largest (scheduleOf n t (now (votes .entry)) (now (crashes .entry)) (now (reaches .entry))) ⌝ }
 {
     let number = question(n, t, votes, crashes, reaches, n, n);

@@ -1,30 +1,19 @@
 // The questions about one process, 4 to 6, on the values that stand at its place i. None has a
 // `requires`: n, t and i may be anything.
 ghost use mathlib.Core.Path.{_≡_};
-ghost use Prim.Native.Nat.{_+_, _^_};
-ghost use lib.Dec.{ltb, leb};
+ghost use Prim.Native.Nat.{_+_};
+ghost use lib.Dec.{leb};
 ghost use Rattle.schedule.specs.Questions.{reachRight, entryQuestion};
-use crate::is_named;
-
-// Whether a reach names only processes 1 to n. There are 32 bits, so from 32 on every reach does.
-fn is_within_size(reach: u32, n: usize) -> bool
-    ensures tested { λ r. ⌜ r ≡ ltb reach (2 ^ n) ⌝ }
-{
-    if 31 < n {
-        return true;
-    }
-    if 0 < reach >> (n as u32) {
-        return false;
-    }
-    true
-}
+use sets::Set;
+use sets::is_named;
+use sets::is_up_to;
 
 // Whether a reach names only processes 1 to n, never its own process, and nobody where the crash
 // round is 0.
-fn is_reach_right(n: usize, i: usize, crash: u8, reach: u32) -> bool
+fn is_reach_right(n: usize, i: usize, crash: u8, reach: Set) -> bool
     ensures tested { λ r. ⌜ r ≡ reachRight n i crash reach ⌝ }
 {
-    if !is_within_size(reach, n) {
+    if !is_up_to(reach, n) {
         return false;
     }
     if is_named(reach, i) {
@@ -50,7 +39,7 @@ fn is_round(crash: usize, t: usize) -> bool
 }
 
 // The number of the first question of a process whose answer is no, or 0.
-pub fn process_question(n: usize, t: usize, i: usize, vote: u8, crash: u8, reach: u32) -> u8
+pub fn process_question(n: usize, t: usize, i: usize, vote: u8, crash: u8, reach: Set) -> u8
     ensures asked { λ r. ⌜ r ≡ entryQuestion n t i vote crash reach ⌝ }
 {
     if 1 < vote {

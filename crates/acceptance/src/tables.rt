@@ -6,6 +6,7 @@ ghost use Rattle.laws.specs.Answer.{andThen, askEach};
 ghost use Rattle.schedule.specs.Schedule.{Schedule, scheduleOf};
 ghost use Rattle.schedule.specs.Questions.{tablesLong, answersOf, processQuestion};
 use crate::process::process_question;
+use sets::Set;
 
 // Whether the three input tables and the two answer tables, whose lengths are given, are n long.
 pub fn are_tables_long(
@@ -41,7 +42,7 @@ fn first_no(found: u8, next: u8) -> u8
 }
 
 // The number of the first question of the processes in order whose answer is no, or 0.
-pub fn processes_question(n: usize, t: usize, votes: &[u8], crashes: &[u8], reaches: &[u32]) -> u8
+pub fn processes_question(n: usize, t: usize, votes: &[u8], crashes: &[u8], reaches: &[Set]) -> u8
     requires long { ⌜ (length (now votes) ≡ n) × (length (now crashes) ≡ n) × (length (now reaches) ≡ n) ⌝ }
     ensures asked { λ r. ⌜ r ≡ askEach n (processQuestion (scheduleOf n t (now (votes .entry)) (now (crashes .entry)) (now (reaches .entry)))) ⌝ }
 {

@@ -3,30 +3,17 @@
 use mathlib.Core.Path.{_≡_, sym, ap, _∙_}
 use mathlib.Core.Logic.{inl, inr}
 use mathlib.Core.Bool.{Bool, true, cond, _&&_}
-use Prim.Native.Nat.{ℕ, suc, _+_, _-_, _/_, _%_, _^_, _<_, zero-le}
+use Prim.Native.Nat.{ℕ, _<_, zero-le}
 use native.Mathlib.Omega.{arith}
 use lib.Dec.{eqb}
-use lib.Pow.{ones-split, ones-lt, high, low}
-use borrow.Author.Tests.{eqb-true, eqb-false, eq-eqb}
+use borrow.Author.Tests.{eqb-true, eqb-false}
 use Rattle.laws.proofs.Test.{true-or-false, and-goes-on, and-no-left, or-left, or-goes-on, or-neither}
 use Rattle.member.specs.Saying.{nothing}
-use Rattle.schedule.specs.Schedule.{names}
-use Rattle.acceptance.proofs.Reach.{names-nobody}
+use Rattle.sets.specs.Sets.{names}
+use Rattle.sets.proofs.Bits.{names-nobody, all-named}
 use Rattle.run.specs.Run.{completesRound, isHeard, delivered}
-use Rattle.delivery.proofs.Sets.{completing, crashing, crashed}
+use Rattle.delivery.proofs.Senders.{completing, crashing, crashed}
 use Rattle.delivery.specs.Receivers.{receiversOf, heardOf, HeardIsDelivered}
-
--- the set of all has the bit of each process
-all-named : (width i : ℕ) → i < width → names (2 ^ width - 1) i ≡ true
-unfolding names
-all-named width i l =
-    let j = width - i - 1 in
-    let e : width ≡ suc j + i = omega arith in
-    let rest : (2 ^ width - 1) / 2 ^ i ≡ 2 ^ suc j - 1 =
-    ap (λ (w : ℕ). (2 ^ w - 1) / 2 ^ i) e ∙ ap (λ (x : ℕ). x / 2 ^ i) (ones-split (suc j) i) ∙ high (2 ^ suc j - 1) i (ones-lt i) in
-    let f : suc j ≡ j + 1 = omega arith in
-    let odd : (2 ^ suc j - 1) % 2 ≡ 1 = ap (λ (w : ℕ). (2 ^ w - 1) % 2) f ∙ ap (λ (x : ℕ). x % 2) (ones-split j 1) ∙ low (2 ^ j - 1) 1 (ones-lt 1) in
-    eq-eqb _ _ (ap (λ (x : ℕ). x % 2) rest ∙ odd)
 
 module _ (width r i c reach : ℕ) (l : i < width) where
   named : names (receiversOf width r c reach) i ≡ isHeard r i c reach

@@ -1,3 +1,3 @@
-pub mod Sets
+pub mod Senders
 pub mod Heard
 pub mod Sent

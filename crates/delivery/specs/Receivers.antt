@@ -1,17 +1,17 @@
 -- The receivers of a message as a set of processes: a number whose bit i stands for the process at place i. What a process hears is then the test
 -- of one bit. Proved in proofs/Heard.antt: `heard-delivered : (width r i c reach code : ℕ) → i < width → HeardIsDelivered width r i c reach code`.
-use Prim.Native.Nat.{ℕ, _-_, _^_}
+use Prim.Native.Nat.{ℕ}
 use mathlib.Core.Path.{_≡_}
 use mathlib.Core.Bool.{cond}
 use lib.Dec.{eqb}
 use Rattle.member.specs.Saying.{nothing}
-use Rattle.schedule.specs.Schedule.{names}
+use Rattle.sets.specs.Sets.{names, everyone}
 use Rattle.run.specs.Run.{completesRound, delivered}
 
 -- in round r, of a sender with crash round c and this reach: every process if it completes the round, its reach if it crashes in it, and else
 -- nobody; sets have `width` bits
 unfoldable pub receiversOf : ℕ → ℕ → ℕ → ℕ → ℕ
-receiversOf width r c reach = cond (completesRound r c) (2 ^ width - 1) (cond (eqb c r) reach 0)
+receiversOf width r c reach = cond (completesRound r c) (everyone width) (cond (eqb c r) reach 0)
 
 -- what the process at place i hears of a code that is sent to these receivers
 unfoldable pub heardOf : ℕ → ℕ → ℕ → ℕ

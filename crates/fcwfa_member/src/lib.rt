@@ -9,7 +9,8 @@ mod bytes;
 
 ghost use mathlib.Core.Path.{_≡_};
 ghost use Rattle.laws.specs.Answer.{placeAfter};
-ghost use Rattle.member.specs.Opening.{largest, opening, openQuestion};
+ghost use Rattle.sets.specs.Largest.{largest};
+ghost use Rattle.member.specs.Opening.{opening, openQuestion};
 ghost use Rattle.member.specs.Saying.{says};
 ghost use Rattle.member.specs.Hearing.{hears};
 ghost use Rattle.member.specs.Questions.{sayQuestion, hearQuestion};

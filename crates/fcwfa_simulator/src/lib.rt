@@ -6,12 +6,13 @@
 // overlaps with nothing else that the call is lent.
 ghost use mathlib.Core.Path.{_≡_};
 ghost use Rattle.laws.specs.Answer.{placeAfter};
-ghost use Rattle.member.specs.Opening.{largest};
+ghost use Rattle.sets.specs.Largest.{largest};
 ghost use Rattle.schedule.specs.Schedule.{scheduleOf};
 ghost use Rattle.run.specs.Protocol.{fcwfa};
 ghost use Rattle.run.specs.Report.{report};
 ghost use Rattle.simulator.specs.Answers.{countsOf, simulateQuestion, decisionsAfter, roundsAfter};
 ghost use Rattle.fcwfa_simulator.specs.Numbers.{countsNumbers, NumbersKeepDemand3};
+use sets::Set;
 use simulator::Counts;
 use simulator::Simulated;
 
@@ -30,7 +31,7 @@ pub extern "C" fn fcwfa_simulate(
     t: usize,
     votes: &[u8],
     crashes: &[u8],
-    reaches: &[u32],
+    reaches: &[Set],
     decisions: &mut [u8],
     rounds: &mut [u8],
     counts: &mut [usize; 4],

@@ -7,11 +7,12 @@ use borrow.Author.Tests.{eq-eqb, ne-eqb, ltb-true, le-leb, lt-leb}
 use lib.Dec.{ltb, eqb}
 use lib.ListN.{length, getD, drop}
 use Rattle.laws.specs.Test.{within}
-use Rattle.laws.specs.Below.{sum, count}
+use Rattle.laws.specs.Below.{count}
+use Rattle.sets.specs.Sets.{setOf}
 use Rattle.laws.proofs.Test.{and-left, within-low, within-high}
 use Rattle.fields.specs.Found.{found, wrong}
 use Rattle.fields.specs.Decimal.{letter, isDigit}
-use Rattle.fields.specs.Fields.{hasByte, ended, numberField, digitField, reachField, reachField32}
+use Rattle.fields.specs.Fields.{hasByte, ended, numberField, digitField, reachField, reachUpTo}
 
 pub digit-within : (b : ℕ) → isDigit b ≡ true → (letter 0 ≤ b) × (b ≤ letter 9)
 unfolding isDigit
@@ -59,15 +60,15 @@ module _ (end : ℕ) (text : List ℕ) where
       number-two b z = rw (← at-0, ← at-1, a, b, ne-eqb first (letter 0) z)
 
   -- A reach, by how many of its letters are 0 or 1.
-  pub reach-long : (n : ℕ) → 32 < n → reachField32 end text n ≡ wrong
-  unfolding reachField32
-  reach-long n l = rw (lt-leb n 32 l)
+  pub reach-long : (limit n : ℕ) → limit < n → reachUpTo end text limit n ≡ wrong
+  unfolding reachUpTo
+  reach-long limit n l = rw (lt-leb n limit l)
 
-  module _ (n letters : ℕ) (counted : letters ≡ count n (λ j. within (letter 0) (getD text j 0) (letter 1))) (fits : n ≤ 32) where
-    pub reach-letters : (letters ≡ n → ⊥) → reachField32 end text n ≡ wrong
-    unfolding reachField32 reachField
-    reach-letters a = rw (le-leb n 32 fits, ← counted, ne-eqb letters n a)
+  module _ (limit n letters : ℕ) (counted : letters ≡ count n (λ j. within (letter 0) (getD text j 0) (letter 1))) (fits : n ≤ limit) where
+    pub reach-letters : (letters ≡ n → ⊥) → reachUpTo end text limit n ≡ wrong
+    unfolding reachUpTo reachField
+    reach-letters a = rw (le-leb n limit fits, ← counted, ne-eqb letters n a)
 
-    pub reach-ended : letters ≡ n → reachField32 end text n ≡ ended end text (sum n (λ j. (getD text j 0 - letter 0) * 2 ^ j)) n
-    unfolding reachField32 reachField
-    reach-ended a = rw (le-leb n 32 fits, ← counted, eq-eqb letters n a)
+    pub reach-ended : letters ≡ n → reachUpTo end text limit n ≡ ended end text (setOf n (λ j. getD text j 0 - letter 0)) n
+    unfolding reachUpTo reachField
+    reach-ended a = rw (le-leb n limit fits, ← counted, eq-eqb letters n a)

@@ -1,12 +1,13 @@
 -- The fields of a line: "fields are split by one space", and the last ends with the line's LF. So each field is read with the byte that ends it. Past
 -- the end of a text byte 0 stands here, which is no digit.
-use Prim.Native.Nat.{ℕ, _+_, _-_, _*_, _^_, _≤_}
+use Prim.Native.Nat.{ℕ, _+_, _-_, _*_, _≤_}
 use mathlib.Core.List.{List, [], _∷_}
 use mathlib.Core.Bool.{Bool, true, false, cond, _&&_, not}
 use lib.ListN.{length, getD, drop}
 use lib.Dec.{ltb, leb, eqb}
 use Rattle.laws.specs.Test.{within}
-use Rattle.laws.specs.Below.{sum, count}
+use Rattle.laws.specs.Below.{count}
+use Rattle.sets.specs.Sets.{setOf}
 use Rattle.fields.specs.Found.{Found, found, wrong}
 use Rattle.fields.specs.Decimal.{letter, isDigit}
 use Rattle.fields.specs.declared.Field.{Field}
@@ -52,12 +53,12 @@ module _ (end : ℕ) (text : List ℕ) where
   unfoldable pub reachField : ℕ → Found ℕ
   reachField n =
       cond (eqb (count n (λ j. within (letter 0) (getD text j 0) (letter 1))) n)
-      (ended (sum n (λ j. digitAt j * 2 ^ j)) n)
+      (ended (setOf n digitAt) n)
       wrong
 
-  -- a reach that 32 bits hold
-  unfoldable pub reachField32 : ℕ → Found ℕ
-  reachField32 n = cond (leb n 32) (reachField n) wrong
+  -- a reach of at most so many processes
+  unfoldable pub reachUpTo : ℕ → ℕ → Found ℕ
+  reachUpTo limit n = cond (leb n limit) (reachField n) wrong
 
 -- What an answer says of the start of a text: a value and how many bytes it takes, its end included; or that none is there.
 abbrev pub fieldIs : List ℕ → Field → Found ℕ

@@ -1,13 +1,16 @@
 // The letters 0 and 1 of a reach.
 ghost use mathlib.Core.Path.{_≡_};
-ghost use Prim.Native.Nat.{_-_, _*_, _^_, _≤_};
+ghost use Prim.Native.Nat.{_-_, _≤_};
 ghost use lib.ListN.{getD};
 ghost use Rattle.laws.specs.Test.{within};
-ghost use Rattle.laws.specs.Below.{sum, count};
+ghost use Rattle.laws.specs.Below.{count};
+ghost use Rattle.sets.specs.Largest.{largest};
+ghost use Rattle.sets.specs.Sets.{setOf};
 ghost use Rattle.fields.specs.Decimal.{letter};
 use crate::bytes::byte_at;
 use laws::bit;
 use laws::is_within;
+use sets::Set;
 
 // How many of the first n bytes are a letter 0 or 1.
 pub fn letter_count(text: &[u8], n: usize) -> usize
@@ -23,17 +26,17 @@ pub fn letter_count(text: &[u8], n: usize) -> usize
     k
 }
 
-// The number that n letters 0 or 1 stand for: the letter at place j is bit j.
-pub fn reach_value(text: &[u8], n: usize) -> u32
-    requires width { ⌜ n ≤ 32 ⌝ }
+// The set that n letters 0 or 1 stand for: the letter at place j is bit j.
+pub fn reach_value(text: &[u8], n: usize) -> Set
+    requires width { ⌜ n ≤ largest ⌝ }
     requires letters { ⌜ count n (λ j. within (letter 0) (getD (now text) j 0) (letter 1)) ≡ n ⌝ }
-    ensures summed { λ r. ⌜ r ≡ sum n (λ j. (getD (now (text .entry)) j 0 - letter 0) * 2 ^ j) ⌝ }
+    ensures summed { λ r. ⌜ r ≡ setOf n (λ j. getD (now (text .entry)) j 0 - letter 0) ⌝ }
 {
-    let mut reach: u32 = 0;
+    let mut reach: Set = 0;
     let mut j: usize = 0;
     while j < n {
         let digit = byte_at(text, j) - b'0';
-        reach += (digit as u32) << (j as u32);
+        reach += (digit as Set) << (j as Set);
         j += 1;
     }
     reach

@@ -9,15 +9,18 @@ mod bytes;
 mod letters;
 
 ghost use mathlib.Core.Path.{_≡_};
-ghost use Rattle.fields.specs.Fields.{startsWith, ended as Fields·ended, numberField, digitField, reachField32, fieldIs, fieldWithin, reachIs, reachWithin};
+ghost use Rattle.sets.specs.Largest.{largest};
+ghost use Rattle.fields.specs.Fields.{startsWith, ended as Fields·ended, numberField, digitField, reachUpTo, fieldIs, fieldWithin, reachIs, reachWithin};
 use crate::bytes::byte_at;
 use crate::bytes::has_byte;
 use crate::bytes::is_digit;
 use crate::letters::letter_count;
 use crate::letters::reach_value;
+use sets::Set;
+use sets::WIDTH;
 
-// The most letters that a reach of 32 bits holds.
-const WIDTH: usize = 32;
+// The byte that splits fields.
+pub const SPACE: u8 = 32;
 
 // A number and how many bytes it takes, its end included; or no number of the form asked for.
 pub enum Field {
@@ -28,7 +31,7 @@ pub enum Field {
 // A reach as a number, bit j for the letter at place j, and how many bytes it takes, its end
 // included; or no reach.
 pub enum Reach {
-    Names(u32, usize),
+    Names(Set, usize),
     NoReach,
 }
 
@@ -88,9 +91,9 @@ pub fn digit_field(text: &[u8], end: u8) -> Field
     ended(text, end, first - b'0', 1)
 }
 
-// A reach of n letters 0 or 1. One of more than 32 letters is none.
+// A reach of n letters 0 or 1. One of more letters than a set has bits is none.
 pub fn reach_field(text: &[u8], n: usize, end: u8) -> Reach
-    ensures read { λ r. ⌜ reachIs (now (text .entry)) r ≡ reachField32 end (now (text .entry)) n ⌝ }
+    ensures read { λ r. ⌜ reachIs (now (text .entry)) r ≡ reachUpTo end (now (text .entry)) largest n ⌝ }
     ensures within { λ r. ⌜ reachWithin (now (text .entry)) r ⌝ }
 {
     if WIDTH < n {

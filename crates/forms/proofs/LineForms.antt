@@ -16,10 +16,10 @@ use Rattle.fields.specs.declared.Field.{Field}
 use Rattle.fields.specs.declared.Field.the-variants.{Value, NoValue}
 use Rattle.fields.specs.declared.Reach.{Reach}
 use Rattle.fields.specs.declared.Reach.the-variants.{Names, NoReach}
-use Rattle.fields.specs.Fields.{space, numberField, digitField, reachField, reachField32, fieldIs, reachIs}
+use Rattle.fields.specs.Fields.{space, numberField, digitField, reachField, reachUpTo, fieldIs, reachIs}
 use Rattle.text.specs.Forms.{sizesAt, entryAt}
 use Rattle.text.specs.Reading.{isFound, valueOr}
-use Rattle.forms.specs.Answers.{valueOf, entryAt32}
+use Rattle.forms.specs.Answers.{valueOf, entryUpTo}
 
 -- What the value of a form tells of the form.
 module _ {A : Type 0} where
@@ -73,15 +73,16 @@ module _ {A : Type 0} where
   then-if true x next = refl
   then-if false x next = refl
 
--- A process's line whose reach 32 bits hold. Where n is at most 32 that is no question, and a line that is not of its form stays so for any n.
-module _ (n i : ℕ) (text : List ℕ) where
-  pub entry-in-32 : n ≤ 32 → entryAt32 n i text ≡ entryAt n i text
-  unfolding entryAt32
-  entry-in-32 l = cond-true (leb n 32) (entryAt n i text) wrong (le-leb n 32 l)
+-- A process's line whose reach has at most `limit` letters. Where n is at most that it is no question, and a line that is not of its form stays so for
+-- any n.
+module _ (limit n i : ℕ) (text : List ℕ) where
+  pub entry-up-to : n ≤ limit → entryUpTo limit n i text ≡ entryAt n i text
+  unfolding entryUpTo
+  entry-up-to l = cond-true (leb n limit) (entryAt n i text) wrong (le-leb n limit l)
 
-  no-entry : none ≡ valueOf (entryAt n i text) → none ≡ valueOf (entryAt32 n i text)
-  unfolding entryAt32
-  no-entry e = none-if (leb n 32) (entryAt n i text) e
+  no-entry : none ≡ valueOf (entryAt n i text) → none ≡ valueOf (entryUpTo limit n i text)
+  unfolding entryUpTo
+  no-entry e = none-if (leb n limit) (entryAt n i text) e
 
 module _ (text : List ℕ) where
   pub no-n : numberField space text ≡ wrong → none ≡ valueOf (sizesAt text)
@@ -97,37 +98,37 @@ module _ (text : List ℕ) where
     unfolding sizesAt thenRead
     both-sizes e = rw (first, e)
 
-  module _ (n i : ℕ) where
-    pub no-id : numberField space text ≡ wrong → none ≡ valueOf (entryAt32 n i text)
+  module _ (limit n i : ℕ) where
+    pub no-id : numberField space text ≡ wrong → none ≡ valueOf (entryUpTo limit n i text)
     unfolding entryAt thenRead
-    no-id e = no-entry n i text (rw e)
+    no-id e = no-entry limit n i text (rw e)
 
     module _ {id : ℕ} {after-id : List ℕ} (first : numberField space text ≡ found id after-id) where
-      pub other-id : id ≢ i + 1 → none ≡ valueOf (entryAt32 n i text)
+      pub other-id : id ≢ i + 1 → none ≡ valueOf (entryUpTo limit n i text)
       unfolding entryAt thenRead
-      other-id h = no-entry n i text (rw (first, ne-eqb id (i + 1) h))
+      other-id h = no-entry limit n i text (rw (first, ne-eqb id (i + 1) h))
 
       module _ (own : id ≡ i + 1) where
-        pub no-vote : digitField space after-id ≡ wrong → none ≡ valueOf (entryAt32 n i text)
+        pub no-vote : digitField space after-id ≡ wrong → none ≡ valueOf (entryUpTo limit n i text)
         unfolding entryAt thenRead
-        no-vote e = no-entry n i text (rw (first, eq-eqb id (i + 1) own, e))
+        no-vote e = no-entry limit n i text (rw (first, eq-eqb id (i + 1) own, e))
 
         module _ {vote : ℕ} {after-vote : List ℕ} (second : digitField space after-id ≡ found vote after-vote) where
-          pub no-crash : numberField space after-vote ≡ wrong → none ≡ valueOf (entryAt32 n i text)
+          pub no-crash : numberField space after-vote ≡ wrong → none ≡ valueOf (entryUpTo limit n i text)
           unfolding entryAt thenRead
-          no-crash e = no-entry n i text (rw (first, eq-eqb id (i + 1) own, second, e))
+          no-crash e = no-entry limit n i text (rw (first, eq-eqb id (i + 1) own, second, e))
 
           module _ {crash : ℕ} {after-crash : List ℕ} (third : numberField space after-vote ≡ found crash after-crash) where
             -- what is left is the reach
-            last-field : entryAt32 n i text ≡ thenRead (reachField32 lf after-crash n) (λ reach rest. found (record { vote = vote; crash = crash; reach = reach }) rest)
-            unfolding entryAt32 entryAt thenRead reachField32
-            last-field = rw (first, eq-eqb id (i + 1) own, second, third) (then-if (leb n 32) (reachField lf after-crash n) (λ reach rest. found (record { vote = vote; crash = crash; reach = reach }) rest))
+            last-field : entryUpTo limit n i text ≡ thenRead (reachUpTo lf after-crash limit n) (λ reach rest. found (record { vote = vote; crash = crash; reach = reach }) rest)
+            unfolding entryUpTo entryAt thenRead reachUpTo
+            last-field = rw (first, eq-eqb id (i + 1) own, second, third) (then-if (leb n limit) (reachField lf after-crash n) (λ reach rest. found (record { vote = vote; crash = crash; reach = reach }) rest))
 
-            pub no-reach : reachField32 lf after-crash n ≡ wrong → none ≡ valueOf (entryAt32 n i text)
+            pub no-reach : reachUpTo lf after-crash limit n ≡ wrong → none ≡ valueOf (entryUpTo limit n i text)
             unfolding thenRead
             no-reach e = rw (last-field, e)
 
-            pub whole-entry : {reach : ℕ} {end : List ℕ} → reachField32 lf after-crash n ≡ found reach end
-                → some (record { vote = vote; crash = crash; reach = reach }) ≡ valueOf (entryAt32 n i text)
+            pub whole-entry : {reach : ℕ} {end : List ℕ} → reachUpTo lf after-crash limit n ≡ found reach end
+                → some (record { vote = vote; crash = crash; reach = reach }) ≡ valueOf (entryUpTo limit n i text)
             unfolding thenRead
             whole-entry e = rw (last-field, e)

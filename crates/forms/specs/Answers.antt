@@ -53,6 +53,6 @@ abbrev pub processIs : ProcessLine → Option Entry
 processIs (Process vote crash reach) = some (record { vote = vote; crash = crash; reach = reach })
 processIs NoProcess = none
 
--- the line of a process whose reach 32 bits hold
-unfoldable pub entryAt32 : ℕ → ℕ → List ℕ → Found Entry
-entryAt32 n i text = cond (leb n 32) (entryAt n i text) wrong
+-- the line of a process whose reach has at most `limit` letters
+unfoldable pub entryUpTo : ℕ → ℕ → ℕ → List ℕ → Found Entry
+entryUpTo limit n i text = cond (leb n limit) (entryAt n i text) wrong

@@ -5,23 +5,22 @@
 // definitions in specs/Answers.antt give, and have no `requires`.
 ghost use mathlib.Core.Path.{_≡_};
 ghost use Rattle.laws.specs.Answer.{accepted, andNext};
-ghost use Rattle.member.specs.Opening.{largest};
+ghost use Rattle.sets.specs.Largest.{largest};
 ghost use Rattle.fields.specs.Fields.{startsWith};
 ghost use Rattle.text.specs.Forms.{sizesAt};
 ghost use Rattle.text.specs.Reading.{longest, sizesIn};
-ghost use Rattle.forms.specs.Answers.{valueOf, readingIs, headingIs, sizesIs, processIs, headQuestions, entryAt32};
+ghost use Rattle.forms.specs.Answers.{valueOf, readingIs, headingIs, sizesIs, processIs, headQuestions, entryUpTo};
 use fields::Field;
 use fields::Reach;
+use fields::SPACE;
 use fields::starts_with;
+use lines::LF;
 use lines::from;
 use lines::line_start;
+use sets::Set;
 
 // How many bytes a text may have.
-const LONGEST: usize = 2048;
-
-const SPACE: u8 = 32;
-
-const LF: u8 = 10;
+pub const LONGEST: usize = 2048;
 
 // The sizes n and t of the text, or the number of the first question whose answer is no and its line.
 pub enum Reading {
@@ -43,7 +42,7 @@ pub enum SizesLine {
 
 // The vote, the crash round and the reach of a process's line, or that it is not of its form.
 pub enum ProcessLine {
-    Process(u8, u8, u32),
+    Process(u8, u8, Set),
     NoProcess,
 }
 
@@ -96,9 +95,9 @@ pub fn read_head(text: &[u8]) -> Reading
 }
 
 // The line of the process at place i, at the start of what is handed over: its own number i + 1, vote,
-// crash round and reach of n letters. One of more than 32 letters is none.
+// crash round and reach of n letters. One of more letters than a set has bits is none.
 pub fn read_process(text: &[u8], n: usize, i: usize) -> ProcessLine
-    ensures read { λ r. ⌜ processIs r ≡ valueOf (entryAt32 n i (now (text .entry))) ⌝ }
+    ensures read { λ r. ⌜ processIs r ≡ valueOf (entryUpTo largest n i (now (text .entry))) ⌝ }
 {
     let Field::Value(id, id_used) = fields::number_field(text, SPACE) else {
         return ProcessLine::NoProcess;

@@ -6,7 +6,7 @@ mod row;
 mod rules;
 
 ghost use mathlib.Core.Path.{_≡_};
-ghost use Rattle.member.specs.Opening.{largest};
+ghost use Rattle.sets.specs.Largest.{largest};
 ghost use Rattle.member.specs.Answers.{heardIs, hearAnswer};
 use member::Heard;
 use member::Member;

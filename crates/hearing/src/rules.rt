@@ -2,7 +2,7 @@
 ghost use mathlib.Core.Path.{_≡_};
 ghost use mathlib.Core.Bool.{true};
 ghost use Prim.Native.Nat.{_+_, _≤_, _<_};
-ghost use Rattle.member.specs.Opening.{largest};
+ghost use Rattle.sets.specs.Largest.{largest};
 ghost use Rattle.member.specs.State.{inRange};
 ghost use Rattle.member.specs.Hearing.{estimates, zerosOnly, quiet, enough, ruleMet, moved as Hearing·moved, firstEstimate, lowered, toldValue, byRule, becomes};
 use crate::row::is_told;

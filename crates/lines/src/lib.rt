@@ -11,7 +11,7 @@ ghost use lib.ListN.{length, drop};
 ghost use Rattle.lines.specs.Lines.{lineLength, afterLine, afterLines, startOf, lineOf};
 
 // The byte that ends a line.
-const LF: u8 = 10;
+pub const LF: u8 = 10;
 
 // Where the line that starts at `at` ends: the place of its LF, or the text's end if it has none.
 fn line_end(text: &[u8], at: usize) -> usize

@@ -4,13 +4,14 @@
 // whole: its results are those that the definitions give.
 ghost use mathlib.Core.Path.{_≡_};
 ghost use Rattle.marked.specs.Marked.{MarkedTable, CaseAt};
+use sets::Set;
 
 // A marked schedule, with n = 4 and t = 3, and its results. Bit i - 1 of a reach is for process i. A
 // decision is 0, 1 or 2 (none), and a process without one has round 0.
 pub struct Case {
     pub votes: [u8; 4],
     pub crashes: [u8; 4],
-    pub reaches: [u32; 4],
+    pub reaches: [Set; 4],
     pub decisions: [u8; 4],
     pub rounds: [u8; 4],
     pub f: u8,

@@ -5,11 +5,6 @@ use Rattle.laws.specs.Test.{within}
 use Rattle.laws.specs.Answer.{ask}
 use Rattle.member.specs.declared.Member.{Member}
 
--- "n from 4 to 32": the largest n that is accepted. The questions and "in range" take the limit as a parameter, and contracts give them this one; every
--- other definition is for any n and t.
-abbrev pub largest : ℕ
-largest = 32
-
 -- "Opening: round 1, estimate = vote, undecided."
 abbrev pub opening : ℕ → ℕ → ℕ → ℕ → Member
 opening n t id vote = record { n = n; t = t; id = id; round = 1; estimate = vote; decided = 0 }

@@ -5,7 +5,7 @@ use mathlib.Core.Path.{_≡_}
 use mathlib.Core.List.{List, [], _∷_, map}
 use Rattle.laws.specs.Answer.{Answer, accepted, refused}
 use Rattle.member.specs.declared.Member.{Member}
-use Rattle.member.specs.Opening.{largest}
+use Rattle.sets.specs.Largest.{largest}
 use Rattle.member.specs.Answers.{openAnswer, sayAnswer, hearAnswer}
 
 -- "The state is n, t, own number, the round to play next, the estimate (0 or 1), and the decided round (0 while undecided)."

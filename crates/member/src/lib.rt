@@ -11,7 +11,7 @@ mod state;
 
 pub use state::is_stopped;
 ghost use mathlib.Core.Path.{_≡_};
-ghost use Rattle.member.specs.Opening.{largest};
+ghost use Rattle.sets.specs.Largest.{largest};
 ghost use Rattle.member.specs.Answers.{openedIs, openAnswer, saidIs, sayAnswer};
 
 // The state of a member. `id` is its own number, `round` the round to play next, and `decided` the

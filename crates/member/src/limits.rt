@@ -1,16 +1,15 @@
 // The limits of n, t, own number and vote.
 ghost use mathlib.Core.Path.{_≡_};
-ghost use Rattle.member.specs.Opening.{largest, openQuestion};
+ghost use Rattle.sets.specs.Largest.{largest};
+ghost use Rattle.member.specs.Opening.{openQuestion};
 use laws::is_within;
-
-// The largest n that is accepted.
-const LARGEST: usize = 32;
+use sets::WIDTH;
 
 // The number of the first question of opening whose answer is no, or 0.
 pub fn open_question(n: usize, t: usize, id: usize, vote: u8) -> u8
     ensures asked { λ r. ⌜ r ≡ openQuestion largest n t id vote ⌝ }
 {
-    if !is_within(4, n, LARGEST) {
+    if !is_within(4, n, WIDTH) {
         return 1;
     }
     let below = n - 1;

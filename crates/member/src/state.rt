@@ -1,7 +1,7 @@
 // What a state says: whether it is in range, whether it has stopped, and the code that it sends.
 ghost use mathlib.Core.Path.{_≡_};
 ghost use mathlib.Core.Bool.{true};
-ghost use Rattle.member.specs.Opening.{largest};
+ghost use Rattle.sets.specs.Largest.{largest};
 ghost use Rattle.member.specs.State.{inLimits, placed, inRange, stopped};
 ghost use Rattle.member.specs.Saying.{says};
 use crate::Member;

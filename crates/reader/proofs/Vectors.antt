@@ -7,7 +7,8 @@ use Rattle.lines.specs.Lines.{lineLength, afterLine, afterLines}
 use Rattle.fields.specs.Found.{thenRead}
 use Rattle.fields.specs.Decimal.{isDigit}
 use Rattle.fields.specs.Fields.{startsWith, hasByte, ended, numberField, digitField, reachField}
-use Rattle.schedule.specs.Schedule.{names, crashesIn}
+use Rattle.sets.specs.Sets.{names}
+use Rattle.schedule.specs.Schedule.{crashesIn}
 use Rattle.schedule.specs.Questions.{reachRight, entryQuestion, tablesOf}
 use Rattle.text.specs.Forms.{sizesAt, entryAt}
 use Rattle.text.specs.Reading.{onLine, scheduleIn, entryQuestions, textQuestions}

@@ -10,6 +10,7 @@ use borrow.Author.Tests.{eqb-true}
 use lib.ListN.{length, take, drop}
 use lib.Dec.{eqb}
 use lib.Seq.{length-take-le}
+use Rattle.sets.specs.Largest.{largest}
 use Rattle.laws.specs.Below.{tabulate}
 use Rattle.laws.specs.Answer.{ask, Answer, accepted, refused, answer, andNext, nextEach}
 use Rattle.laws.proofs.Answer.{passed, valueOr, not-accepted, and-next-passes, and-next-refused, and-next-assoc, and-next-accepted, and-next-either}
@@ -54,15 +55,15 @@ module _ (text : List ℕ) (n t : ℕ) (en : sizesIn text .n ≡ n) (et : sizesI
       ∙ sym (and-next-passes _ _ (ap (λ (m : ℕ). nextEach m (entryQuestions text)) en ∙ e))
 
   -- the tables that were read are those of the schedule of the text
-  pub read-votes : (own : List ℕ) → n ≤ 32 → Table n own (λ i. entryIn text i .vote) → take n own ≡ scheduleIn text .votes
+  pub read-votes : (own : List ℕ) → n ≤ largest → Table n own (λ i. entryIn text i .vote) → take n own ≡ scheduleIn text .votes
   unfolding scheduleIn
   read-votes own l h = filled-take l h ∙ ap (λ (m : ℕ). tabulate m (λ i. entryIn text i .vote)) (sym en)
 
-  pub read-crashes : (own : List ℕ) → n ≤ 32 → Table n own (λ i. entryIn text i .crash) → take n own ≡ scheduleIn text .crashes
+  pub read-crashes : (own : List ℕ) → n ≤ largest → Table n own (λ i. entryIn text i .crash) → take n own ≡ scheduleIn text .crashes
   unfolding scheduleIn
   read-crashes own l h = filled-take l h ∙ ap (λ (m : ℕ). tabulate m (λ i. entryIn text i .crash)) (sym en)
 
-  pub read-reaches : (own : List ℕ) → n ≤ 32 → Table n own (λ i. entryIn text i .reach) → take n own ≡ scheduleIn text .reaches
+  pub read-reaches : (own : List ℕ) → n ≤ largest → Table n own (λ i. entryIn text i .reach) → take n own ≡ scheduleIn text .reaches
   unfolding scheduleIn
   read-reaches own l h = filled-take l h ∙ ap (λ (m : ℕ). tabulate m (λ i. entryIn text i .reach)) (sym en)
 

@@ -5,6 +5,7 @@ use lib.ListN.{length}
 use lib.Dec.{leb, eqb}
 use Rattle.laws.specs.Answer.{ask, Answer, accepted, refused, andNext, nextEach}
 use Rattle.laws.specs.Filled.{Filled}
+use Rattle.sets.specs.Largest.{largest}
 use Rattle.lines.specs.Lines.{afterLines}
 use Rattle.schedule.specs.Schedule.{crashesIn}
 use Rattle.text.specs.Reading.{onLine, sizesIn, entryIn, scheduleIn, entryQuestions}
@@ -26,9 +27,9 @@ module _ (text : List ℕ) where
   unfoldable pub restQuestions : Answer (Unit {0}) ℕ
   restQuestions = andNext (nextEach (sizesIn text .n) (entryQuestions text)) (tailQuestions (sizesIn text .n) (sizesIn text .t) (scheduleIn text .crashes))
 
--- a table of 32 whose first n entries are those that f gives
+-- a lent table whose first n entries are those that f gives
 abbrev pub Table : ℕ → List ℕ → (ℕ → ℕ) → Type 0
-Table n table f = Filled 0 32 n table f
+Table n table f = Filled 0 largest n table f
 
 -- where the questions of all n lines are passed, three tables hold what stands there
 abbrev pub EntriesRead : Lines → List ℕ → ℕ → List ℕ → List ℕ → List ℕ → Type 0

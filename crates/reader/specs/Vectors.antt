@@ -7,7 +7,7 @@ use mathlib.Core.List.{List, [], _∷_, _++_, map}
 use lib.ListN.{replicate}
 use Rattle.laws.specs.Quoted.{quoted}
 use Rattle.laws.specs.Answer.{Answer, accepted, refused}
-use Rattle.member.specs.Opening.{largest}
+use Rattle.sets.specs.Largest.{largest}
 use Rattle.schedule.specs.Four.{four, allOne}
 use Rattle.text.specs.Forms.{Sizes}
 use Rattle.text.specs.Reading.{longest}

@@ -8,12 +8,13 @@ mod rest;
 mod tables;
 
 ghost use mathlib.Core.Path.{_≡_};
-ghost use Rattle.member.specs.Opening.{largest};
+ghost use Rattle.sets.specs.Largest.{largest};
 ghost use Rattle.text.specs.Reading.{longest};
 ghost use Rattle.forms.specs.Answers.{readingIs};
 ghost use Rattle.reader.specs.Answers.{readAnswer, votesAfter, crashesAfter, reachesAfter};
 use forms::Reading;
 use forms::read_head;
+use sets::Set;
 
 // Some questions were answered by yes, or the number of the first whose answer is no and its line.
 pub enum Lines {
@@ -21,7 +22,7 @@ pub enum Lines {
     Refused(u8, usize),
 }
 
-pub fn read(text: &[u8], votes: &mut [u8], crashes: &mut [u8], reaches: &mut [u32]) -> Reading
+pub fn read(text: &[u8], votes: &mut [u8], crashes: &mut [u8], reaches: &mut [Set]) -> Reading
     ensures answered { λ r. ⌜ readingIs r ≡ readAnswer largest longest (now (text .entry)) (now (votes .entry)) (now (crashes .entry)) (now (reaches .entry)) ⌝ }
     ensures votes_read { λ r. ⌜ now (votes .exit) ≡ votesAfter largest longest (now (text .entry)) (now (votes .entry)) (now (crashes .entry)) (now (reaches .entry)) ⌝ }
     ensures crashes_read { λ r. ⌜ now (crashes .exit) ≡ crashesAfter largest longest (now (text .entry)) (now (votes .entry)) (now (crashes .entry)) (now (reaches .entry)) ⌝ }

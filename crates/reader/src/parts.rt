@@ -2,6 +2,7 @@
 ghost use mathlib.Core.Path.{_≡_};
 ghost use Prim.Native.Nat.{_≤_};
 ghost use lib.ListN.{length};
+ghost use Rattle.sets.specs.Largest.{largest};
 ghost use Rattle.laws.specs.Answer.{nextEach};
 ghost use Rattle.text.specs.Reading.{sizesIn, entryQuestions};
 ghost use Rattle.reader.specs.Parts.{linesIs, tailQuestions, EntriesRead};
@@ -11,6 +12,7 @@ use forms::read_process;
 use lines::from;
 use lines::line_start;
 use lines::next_line;
+use sets::Set;
 
 // The questions of the lines of the processes, in order, and what stands there.
 pub fn read_processes(
@@ -19,10 +21,10 @@ pub fn read_processes(
     t: usize,
     votes: &mut [u8],
     crashes: &mut [u8],
-    reaches: &mut [u32],
+    reaches: &mut [Set],
 ) -> Lines
-    requires sizes { ⌜ (n ≤ 32) × (sizesIn (now text) .n ≡ n) × (sizesIn (now text) .t ≡ t) ⌝ }
-    requires long { ⌜ (length (now votes) ≡ 32) × (length (now crashes) ≡ 32) × (length (now reaches) ≡ 32) ⌝ }
+    requires sizes { ⌜ (n ≤ largest) × (sizesIn (now text) .n ≡ n) × (sizesIn (now text) .t ≡ t) ⌝ }
+    requires long { ⌜ (length (now votes) ≡ largest) × (length (now crashes) ≡ largest) × (length (now reaches) ≡ largest) ⌝ }
     ensures asked { λ r. ⌜ linesIs r ≡ nextEach n (entryQuestions (now (text .entry))) ⌝ }
     ensures entries { λ r. ⌜ EntriesRead r (now (text .entry)) n (now (votes .exit)) (now (crashes .exit)) (now (reaches .exit)) ⌝ }
 {
@@ -47,7 +49,7 @@ pub fn read_processes(
 
 // What is asked after the last line: that nothing follows, and that at most t processes crash.
 pub fn read_tail(text: &[u8], n: usize, t: usize, crashes: &[u8]) -> Lines
-    requires size { ⌜ (n ≤ 32) × (length (now crashes) ≡ n) ⌝ }
+    requires size { ⌜ (n ≤ largest) × (length (now crashes) ≡ n) ⌝ }
     ensures asked { λ r. ⌜ linesIs r ≡ tailQuestions (now (text .entry)) n t (now (crashes .entry)) ⌝ }
 {
     if line_start(text, n + 3) < text.len() {

@@ -2,6 +2,7 @@
 ghost use mathlib.Core.Path.{_≡_};
 ghost use Prim.Native.Nat.{_≤_};
 ghost use lib.ListN.{length};
+ghost use Rattle.sets.specs.Largest.{largest};
 ghost use Rattle.text.specs.Reading.{sizesIn, scheduleIn};
 ghost use Rattle.reader.specs.Answers.{givenOr, filled};
 ghost use Rattle.reader.specs.Parts.{linesIs, restQuestions};
@@ -9,8 +10,9 @@ use crate::Lines;
 use crate::parts::read_processes;
 use crate::parts::read_tail;
 use crate::tables;
-use laws::zero_bytes;
-use laws::zero_words;
+use sets::Set;
+use sets::zero_bytes;
+use sets::zero_sets;
 
 // Asks the questions after line 3, and fills the tables if each is answered by yes. Number 7 is known
 // only after the last line, so the lines are read into arrays of the function's own.
@@ -20,10 +22,10 @@ pub fn read_rest(
     t: usize,
     votes: &mut [u8],
     crashes: &mut [u8],
-    reaches: &mut [u32],
+    reaches: &mut [Set],
 ) -> Lines
-    requires sizes { ⌜ (n ≤ 32) × (sizesIn (now text) .n ≡ n) × (sizesIn (now text) .t ≡ t) ⌝ }
-    requires long { ⌜ (length (now votes) ≡ 32) × (length (now crashes) ≡ 32) × (length (now reaches) ≡ 32) ⌝ }
+    requires sizes { ⌜ (n ≤ largest) × (sizesIn (now text) .n ≡ n) × (sizesIn (now text) .t ≡ t) ⌝ }
+    requires long { ⌜ (length (now votes) ≡ largest) × (length (now crashes) ≡ largest) × (length (now reaches) ≡ largest) ⌝ }
     ensures asked { λ r. ⌜ linesIs r ≡ restQuestions (now (text .entry)) ⌝ }
     ensures votes_read { λ r. ⌜ now (votes .exit) ≡ givenOr (restQuestions (now (text .entry))) (filled (scheduleIn (now (text .entry)) .votes) (now (votes .entry))) (now (votes .entry)) ⌝ }
     ensures crashes_read { λ r. ⌜ now (crashes .exit) ≡ givenOr (restQuestions (now (text .entry))) (filled (scheduleIn (now (text .entry)) .crashes) (now (crashes .entry))) (now (crashes .entry)) ⌝ }
@@ -31,7 +33,7 @@ pub fn read_rest(
 {
     let mut own_votes = zero_bytes();
     let mut own_crashes = zero_bytes();
-    let mut own_reaches = zero_words();
+    let mut own_reaches = zero_sets();
     let lines = read_processes(
         text,
         n,

@@ -4,6 +4,7 @@
 // whole: its numbers are those that the definitions give.
 ghost use mathlib.Core.Path.{_≡_};
 ghost use Rattle.refusals.specs.Refused.{refusals, RefusalAt};
+use sets::Set;
 
 // A schedule of n processes, in the first n places of its tables, and the number that it is refused
 // with, 0 if it passes.
@@ -12,7 +13,7 @@ pub struct Refusal {
     pub t: usize,
     pub votes: [u8; 4],
     pub crashes: [u8; 4],
-    pub reaches: [u32; 4],
+    pub reaches: [Set; 4],
     pub number: u8,
 }
 

@@ -11,7 +11,7 @@ use lib.Seq.{getD-set-same, getD-set-other, getD-append-seam, take-suc}
 use Rattle.laws.proofs.Counting.{split}
 use Rattle.laws.proofs.Filled.{filled-list}
 use Rattle.report.specs.Bytes.{padded, Holds, Writes}
-use Rattle.report.specs.Answers.{outputIs}
+use Rattle.report.specs.Answers.{outputSize, outputIs}
 
 -- One byte after others, read at a place: before its own, at it, and past it.
 byte-before : (xs : List ℕ) (b k : ℕ) → k < length xs → getD xs k 0 ≡ getD (xs ++ (b ∷ [])) k 0
@@ -94,9 +94,9 @@ unfolding padded
 holds-all size buffer at written h fits = let next = h .next in (filled-list (h .bytes .long) (h .bytes), omega arith)
 
 -- The output: what was written into a buffer of zeros, where all of it fits.
-pub written-output : (blank buffer : List ℕ) (next : ℕ) (written : List ℕ) → blank ≡ replicate 2112 0 → Writes blank 0 buffer next written → length written ≤ 2112
-    → (record { bytes = buffer; length = next } ≡ outputIs written) × (next ≤ 2112)
+pub written-output : (blank buffer : List ℕ) (next : ℕ) (written : List ℕ) → blank ≡ replicate outputSize 0 → Writes blank 0 buffer next written → length written ≤ outputSize
+    → (record { bytes = buffer; length = next } ≡ outputIs written) × (next ≤ outputSize)
 written-output blank buffer next written zeros w fits =
-    let h = holds-all 2112 buffer next written (w 2112 [] (holds-nothing 2112 blank zeros)) fits in
+    let h = holds-all outputSize buffer next written (w outputSize [] (holds-nothing outputSize blank zeros)) fits in
     let long = h .1 in
     (ap₂ (λ (bytes : List ℕ) (length : ℕ). record { bytes = bytes; length = length }) (h .0) long, omega arith)

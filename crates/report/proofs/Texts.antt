@@ -15,7 +15,7 @@ use Rattle.laws.specs.Answer.{ask, Answer, accepted, refused, answer, andNext}
 use Rattle.laws.proofs.Answer.{valueOr, not-accepted, and-next-passes, and-next-refused, and-next-accepted, and-next-either}
 use Rattle.laws.proofs.Lists.{length-tabulate, getD-tabulate}
 use Rattle.lines.specs.Lines.{lineOf}
-use Rattle.member.specs.Opening.{largest}
+use Rattle.sets.specs.Largest.{largest}
 use Rattle.schedule.specs.Schedule.{Schedule, scheduleOf}
 use Rattle.schedule.specs.Questions.{tablesOf, question}
 use Rattle.schedule.proofs.Accepted.{question-accepted}
@@ -29,7 +29,7 @@ use Rattle.text.proofs.Accepted as Text
 use Rattle.reader.specs.Answers.{givenOr, filled, readQuestions, readAnswer, tableAfter, votesAfter, crashesAfter, reachesAfter}
 use Rattle.report.specs.declared.Output.{Output}
 use Rattle.report.specs.Bytes.{padded}
-use Rattle.report.specs.Answers.{outputIs, OutputKeepsDemand3}
+use Rattle.report.specs.Answers.{outputSize, outputIs, OutputKeepsDemand3}
 
 -- the bytes of an output that fits, without the zeros after them
 pub take-padded : (size : ℕ) (written : List ℕ) → length written ≤ size → take (length written) (padded size written) ≡ written
@@ -44,14 +44,14 @@ take-padded size written fits =
 same-schedule : {n t n′ t′ : ℕ} {v c m v′ c′ m′ : List ℕ} → n ≡ n′ → t ≡ t′ → v ≡ v′ → c ≡ c′ → m ≡ m′ → scheduleOf n t v c m ≡ scheduleOf n′ t′ v′ c′ m′
 same-schedule en et ev ec em = λ i. record { n = en i; t = et i; votes = ev i; crashes = ec i; reaches = em i }
 
-module _ (text votes crashes reaches : List ℕ) (ev : length votes ≡ 32) (ec : length crashes ≡ 32) (er : length reaches ≡ 32) where
+module _ (text votes crashes reaches : List ℕ) (ev : length votes ≡ largest) (ec : length crashes ≡ largest) (er : length reaches ≡ largest) where
   abbrev asked : Answer (Unit {0}) ℕ
   asked = readQuestions largest longest text votes crashes reaches
 
   -- the tables are of their size, so only the text is asked about
   asked-text : asked ≡ textQuestions text largest longest
   unfolding readQuestions tablesOf onLine answer ask andNext
-  asked-text = rw (eq-eqb (length votes) 32 ev, eq-eqb (length crashes) 32 ec, eq-eqb (length reaches) 32 er)
+  asked-text = rw (eq-eqb (length votes) largest ev, eq-eqb (length crashes) largest ec, eq-eqb (length reaches) largest er)
 
   module _ {n t : ℕ} (e : accepted (record { n = n; t = t }) ≡ readAnswer largest longest text votes crashes reaches) where
     both : (asked ≡ accepted tt) × _≡_ {A = Answer Sizes ℕ} (accepted (sizesIn text)) (accepted (record { n = n; t = t }))
@@ -86,10 +86,10 @@ module _ (text votes crashes reaches : List ℕ) (ev : length votes ≡ 32) (ec 
         let fm = front _ _ m (same-n _) hm in
         same-schedule (sym (ap (λ (s : Sizes). s .n) sizes)) (sym (ap (λ (s : Sizes). s .t) sizes)) fv fc fm
 
-    pub n-small : n ≤ 32
+    pub n-small : n ≤ largest
     n-small =
         let passed = question-accepted (scheduleIn text) largest true (Text.accepted-schedule text largest longest (scheduleIn text) text-accepted) in
-        let n-high : scheduleIn text .n ≤ 32 = passed .n-high in
+        let n-high : scheduleIn text .n ≤ largest = passed .n-high in
         let same : scheduleIn text .n ≡ n = its-n in
         omega arith
 
@@ -109,7 +109,7 @@ module _ (text votes crashes reaches : List ℕ) (ev : length votes ≡ 32) (ec 
     unfolding textAnswer
     text-refused = and-next-refused _ _ number k (sym asked-text ∙ refuses)
 
-    pub line-shown : length (lineOf k text) ≤ 2048
+    pub line-shown : length (lineOf k text) ≤ longest
     line-shown = Text.line-short text largest longest number k text-refused
 
     pub refusal-printed : refusalText number k (lineOf k text) ≡ outputOf text largest longest
@@ -117,16 +117,16 @@ module _ (text votes crashes reaches : List ℕ) (ev : length votes ≡ 32) (ec 
     refusal-printed = sym (ap (printed text) text-refused)
 
 -- The length counts bytes at the start of the buffer.
-pub counts : (written : List ℕ) {r : Output} → r ≡ outputIs written → r .length ≤ 2112 → Counts (r .length) (r .bytes)
+pub counts : (written : List ℕ) {r : Output} → r ≡ outputIs written → r .length ≤ outputSize → Counts (r .length) (r .bytes)
 unfolding padded
 counts written {r} e fits =
-    let long : length (r .bytes) ≡ 2112 = ap (λ (x : Output). length (x .bytes)) e ∙ length-tabulate 2112 (λ k. getD written k 0) in
+    let long : length (r .bytes) ≡ outputSize = ap (λ (x : Output). length (x .bytes)) e ∙ length-tabulate outputSize (λ k. getD written k 0) in
     (omega arith, sym (length-take-le (r .length) (r .bytes) (omega arith)))
 
 -- Demand 3 of the bytes that are answered.
-pub keeps-demand-3 : (text : List ℕ) (r : Output) → r ≡ outputIs (outputOf text largest longest) → r .length ≤ 2112 → OutputKeepsDemand3 text r
+pub keeps-demand-3 : (text : List ℕ) (r : Output) → r ≡ outputIs (outputOf text largest longest) → r .length ≤ outputSize → OutputKeepsDemand3 text r
 keeps-demand-3 text r e fits =
     let written = outputOf text largest longest in
     let long : r .length ≡ length written = ap (λ (x : Output). x .length) e in
-    let bytes : take (r .length) (r .bytes) ≡ written = ap (λ (x : Output). take (x .length) (x .bytes)) e ∙ take-padded 2112 written (omega arith) in
+    let bytes : take (r .length) (r .bytes) ≡ written = ap (λ (x : Output). take (x .length) (x .bytes)) e ∙ take-padded outputSize written (omega arith) in
     record { kept = λ s h. subst (PrintsDemand3 s) (sym bytes) (Text.demand-3 text largest longest s h) }

@@ -1,19 +1,23 @@
 -- What `printed` answers.
-use Prim.Native.Nat.{ℕ}
+use Prim.Native.Nat.{ℕ, _+_}
 use mathlib.Core.Path.{_≡_}
 use mathlib.Core.List.{List}
 use lib.ListN.{length, take}
 use Rattle.laws.specs.Answer.{accepted}
-use Rattle.member.specs.Opening.{largest}
+use Rattle.sets.specs.Largest.{largest}
 use Rattle.schedule.specs.Schedule.{Schedule}
 use Rattle.text.specs.Reading.{longest, textAnswer}
 use Rattle.text.specs.Facts.{PrintsDemand3}
 use Rattle.report.specs.declared.Output.{Output}
 use Rattle.report.specs.Bytes.{padded}
 
+-- How many bytes an output has at most: the longest is the refusal of a line that is as long as a text may be, and the lines before it have less than 64.
+abbrev pub outputSize : ℕ
+outputSize = longest + 64
+
 -- the output's bytes, with zeros after them, and how many they are
 abbrev pub outputIs : List ℕ → Output
-outputIs written = record { bytes = padded 2112 written; length = length written }
+outputIs written = record { bytes = padded outputSize written; length = length written }
 
 -- Demand 3 of what is printed: wherever the text is accepted, of the bytes that are answered.
 pub record OutputKeepsDemand3 (text : List ℕ) (r : Output) : Type 0 where

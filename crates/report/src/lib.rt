@@ -8,18 +8,22 @@ mod whole;
 
 ghost use mathlib.Core.Path.{_≡_};
 ghost use Rattle.io.specs.Counts.{Counts};
-ghost use Rattle.member.specs.Opening.{largest};
+ghost use Rattle.sets.specs.Largest.{largest};
 ghost use Rattle.text.specs.Reading.{longest};
 ghost use Rattle.text.specs.Output.{outputOf};
 ghost use Rattle.report.specs.Answers.{outputIs, OutputKeepsDemand3};
+use forms::LONGEST;
 use forms::Reading;
-use laws::zero_bytes;
-use laws::zero_words;
+use sets::zero_bytes;
+use sets::zero_sets;
 
-// The output's bytes with zeros after them, and how many they are. The longest output is the refusal
-// of a line of 2,048 bytes: 64 more are enough for the lines before it.
+// How many bytes an output has at most. The longest is the refusal of a line that is as long as a text
+// may be: 64 more are enough for the lines before it.
+pub const OUTPUT: usize = LONGEST + 64;
+
+// The output's bytes with zeros after them, and how many they are.
 pub struct Output {
-    pub bytes: [u8; 2112],
+    pub bytes: [u8; OUTPUT],
     pub length: usize,
 }
 
@@ -31,7 +35,7 @@ pub fn printed(text: &[u8]) -> Output
 {
     let mut votes = zero_bytes();
     let mut crashes = zero_bytes();
-    let mut reaches = zero_words();
+    let mut reaches = zero_sets();
     let reading = reader::read(text, &mut votes, &mut crashes, &mut reaches);
     match reading {
         Reading::Read(n, t) => whole::of_tables(n, t, votes, crashes, reaches),

@@ -3,17 +3,16 @@ ghost use mathlib.Core.Path.{_≡_};
 ghost use mathlib.Core.List.{List};
 ghost use Prim.Native.Nat.{ℕ, _≤_};
 ghost use lib.ListN.{length};
+ghost use Rattle.sets.specs.Largest.{largest};
 ghost use Rattle.simulator.specs.Answers.{givenBy};
 ghost use Rattle.text.specs.Output.{decisionLetter, decisionLine, decisionLines, countsLine, reportText, refusalText};
 ghost use Rattle.report.specs.Bytes.{AllDecisions, Writes};
 use crate::bytes::put;
 use crate::bytes::put_byte;
 use crate::bytes::put_field;
+use fields::SPACE;
+use lines::LF;
 use simulator::Counts;
-
-const SPACE: u8 = 32;
-
-const LF: u8 = 10;
 
 const DASH: u8 = 45;
 
@@ -30,7 +29,7 @@ fn decision_letter(decision: u8) -> u8
 
 // Writes the line of the process at place i.
 fn put_decision(buffer: &mut [u8], at: usize, i: usize, decision: u8, round: u8) -> usize
-    requires small { ⌜ (i ≤ 32) × (decision ≤ 2) ⌝ }
+    requires small { ⌜ (i ≤ largest) × (decision ≤ 2) ⌝ }
     ensures written { λ r. ⌜ Writes (now (buffer .entry)) at (now (buffer .exit)) r (decisionLine i decision round) ⌝ }
 {
     let own = put_field(buffer, at, i + 1, SPACE);
@@ -41,7 +40,7 @@ fn put_decision(buffer: &mut [u8], at: usize, i: usize, decision: u8, round: u8)
 
 // Writes the lines of the processes in order.
 fn put_decisions(buffer: &mut [u8], at: usize, decisions: &[u8], rounds: &[u8]) -> usize
-    requires size { ⌜ (length (now decisions) ≤ 32) × (length (now rounds) ≡ length (now decisions)) ⌝ }
+    requires size { ⌜ (length (now decisions) ≤ largest) × (length (now rounds) ≡ length (now decisions)) ⌝ }
     requires values { ⌜ AllDecisions (now decisions) ⌝ }
     ensures written { λ r. ⌜ Writes (now (buffer .entry)) at (now (buffer .exit)) r (decisionLines (length (now (decisions .entry))) (now (decisions .entry)) (now (rounds .entry))) ⌝ }
 {
@@ -74,7 +73,7 @@ pub fn put_report(
     decisions: &[u8],
     rounds: &[u8],
 ) -> usize
-    requires size { ⌜ (length (now decisions) ≤ 32) × (length (now rounds) ≡ length (now decisions)) ⌝ }
+    requires size { ⌜ (length (now decisions) ≤ largest) × (length (now rounds) ≡ length (now decisions)) ⌝ }
     requires values { ⌜ AllDecisions (now decisions) ⌝ }
     ensures written { λ r. ⌜ Writes (now (buffer .entry)) 0 (now (buffer .exit)) r (reportText (length (now (decisions .entry))) t (givenBy counts (now (decisions .entry)) (now (rounds .entry)))) ⌝ }
 {

@@ -4,24 +4,28 @@ ghost use mathlib.Core.Bool.{true};
 ghost use Prim.Native.Nat.{_≤_};
 ghost use lib.ListN.{length, take, replicate};
 ghost use Rattle.lines.specs.Lines.{lineOf};
-ghost use Rattle.member.specs.Opening.{largest};
+ghost use Rattle.sets.specs.Largest.{largest};
 ghost use Rattle.schedule.specs.Schedule.{scheduleOf};
 ghost use Rattle.schedule.specs.Questions.{answersOf, question};
 ghost use Rattle.run.specs.Protocol.{fcwfa};
 ghost use Rattle.run.specs.Report.{report};
+ghost use Rattle.text.specs.Reading.{longest};
 ghost use Rattle.text.specs.Output.{reportText, refusalText};
-ghost use Rattle.report.specs.Answers.{outputIs};
+ghost use Rattle.report.specs.Answers.{outputSize, outputIs};
+use crate::OUTPUT;
 use crate::Output;
 use crate::report_lines::put_refusal;
 use crate::report_lines::put_report;
-use laws::zero_bytes;
+use sets::Set;
+use sets::WIDTH;
+use sets::zero_bytes;
 use simulator::Simulated;
 
 // A buffer for the output.
-fn blank_output() -> [u8; 2112]
-    ensures zeros { λ r. ⌜ r ≡ replicate 2112 0 ⌝ }
+fn blank_output() -> [u8; OUTPUT]
+    ensures zeros { λ r. ⌜ r ≡ replicate outputSize 0 ⌝ }
 {
-    [0u8; 2112]
+    [0u8; OUTPUT]
 }
 
 // The report of a schedule in tables, which is an accepted one; the answer tables are lent for its run.
@@ -30,13 +34,13 @@ fn completed(
     t: usize,
     votes: &[u8],
     crashes: &[u8],
-    reaches: &[u32],
+    reaches: &[Set],
     decisions: &mut [u8],
     rounds: &mut [u8],
 ) -> Output
     requires accepted { ⌜ question (scheduleOf n t (now votes) (now crashes) (now reaches)) largest (answersOf n (length (now decisions)) (length (now rounds))) ≡ 0 ⌝ }
     ensures output { λ r. ⌜ r ≡ outputIs (reportText n t (report fcwfa (scheduleOf n t (now (votes .entry)) (now (crashes .entry)) (now (reaches .entry))))) ⌝ }
-    ensures fits { λ r. ⌜ r .length ≤ 2112 ⌝ }
+    ensures fits { λ r. ⌜ r .length ≤ outputSize ⌝ }
 {
     let mut bytes = blank_output();
     let run = simulator::simulate(n, t, votes, crashes, reaches, decisions, rounds);
@@ -57,14 +61,14 @@ fn completed(
 pub fn of_tables(
     n: usize,
     t: usize,
-    votes: [u8; 32],
-    crashes: [u8; 32],
-    reaches: [u32; 32],
+    votes: [u8; WIDTH],
+    crashes: [u8; WIDTH],
+    reaches: [Set; WIDTH],
 ) -> Output
-    requires size { ⌜ n ≤ 32 ⌝ }
+    requires size { ⌜ n ≤ largest ⌝ }
     requires accepted { ⌜ question (scheduleOf n t (take n votes) (take n crashes) (take n reaches)) largest true ≡ 0 ⌝ }
     ensures output { λ r. ⌜ r ≡ outputIs (reportText n t (report fcwfa (scheduleOf n t (take n votes) (take n crashes) (take n reaches)))) ⌝ }
-    ensures fits { λ r. ⌜ r .length ≤ 2112 ⌝ }
+    ensures fits { λ r. ⌜ r .length ≤ outputSize ⌝ }
 {
     let mut decisions = zero_bytes();
     let mut rounds = zero_bytes();
@@ -81,9 +85,9 @@ pub fn of_tables(
 
 // The three lines of a refusal, the last of which is line k of the text.
 pub fn refused(text: &[u8], number: u8, k: usize) -> Output
-    requires short { ⌜ length (lineOf k (now text)) ≤ 2048 ⌝ }
+    requires short { ⌜ length (lineOf k (now text)) ≤ longest ⌝ }
     ensures output { λ r. ⌜ r ≡ outputIs (refusalText number k (lineOf k (now (text .entry)))) ⌝ }
-    ensures fits { λ r. ⌜ r .length ≤ 2112 ⌝ }
+    ensures fits { λ r. ⌜ r .length ≤ outputSize ⌝ }
 {
     let mut bytes = blank_output();
     let length = put_refusal(&mut bytes, number, k, lines::line(text, k));

@@ -16,7 +16,8 @@ use Rattle.laws.proofs.Sums.{sum-same, sum-ends}
 use Rattle.laws.proofs.Lists.{tabulate-same}
 use Rattle.laws.proofs.Filled.{each-so, filled-whole}
 use Rattle.member.specs.declared.Member.{Member}
-use Rattle.member.specs.Opening.{largest, opening}
+use Rattle.sets.specs.Largest.{largest}
+use Rattle.member.specs.Opening.{opening}
 use Rattle.member.specs.Questions.{sayQuestion, hearQuestion}
 use Rattle.schedule.specs.Schedule.{Schedule, voteOf, crashOf, reachOf}
 use Rattle.schedule.specs.Questions.{question, Accepted}
@@ -32,7 +33,7 @@ use Rattle.rounds.specs.Rounds.{nobody, crashSchedule, AllOpen, AllSpeak
 
 -- members that stand as after r rounds
 abbrev pub Stand : Schedule → ℕ → List Member → Type 0
-Stand s r members = Filled nobody 32 (s .n) members (after fcwfa s r)
+Stand s r members = Filled nobody largest (s .n) members (after fcwfa s r)
 
 -- what holds after r rounds of the code: the members stand as in the run, with nobody after them, the messages of these rounds are counted, and
 -- where nobody speaks any more nothing happens any more
@@ -41,7 +42,7 @@ pub record Playing (s : Schedule) (members : List Member) (sent-so-far r : ℕ) 
   pub states : Stand s r members
   pub rest : BlankFrom nobody (s .n) members
   pub counted : sent-so-far ≡ sum r (sentAfter fcwfa s)
-  pub few : sent-so-far ≤ 1024 * r
+  pub few : sent-so-far ≤ largest * largest * r
   pub silent : speaking ≡ false → SilentFrom fcwfa s r
 
 module _ (s : Schedule) (ok : question s largest true ≡ 0) where
@@ -87,7 +88,7 @@ module _ (s : Schedule) (ok : question s largest true ≡ 0) where
     pub all-listen : r ≤ s .t → AllListen (s .n) (r + 1) (s .crashes) members (rowOf fcwfa same (r + 1) members)
     all-listen b = rw (add-one r) (listens b)
 
-    pub next-states : {next : List Member} → Filled nobody 32 (s .n) next (nextState fcwfa same (r + 1) members) → Stand s (r + 1) next
+    pub next-states : {next : List Member} → Filled nobody largest (s .n) next (nextState fcwfa same (r + 1) members) → Stand s (r + 1) next
     next-states f = rw (add-one r) (each-so (λ i x l e. e ∙ next-same i l) (rw (add-one r) at f))
 
     pub sent-in : {k : ℕ} → k ≡ sum (s .n) (sent fcwfa same (r + 1) members) → k ≡ sentAfter fcwfa s r
@@ -100,7 +101,7 @@ module _ (s : Schedule) (ok : question s largest true ≡ 0) where
         let h = promises .silence r none in
         record { states = λ q l. h .states q (omega arith) ∙ sym (h .states (r + 1) (omega arith)); sends = λ q l. h .sends q (omega arith) }
 
-  pub starts : {members : List Member} → Filled nobody 32 (s .n) members (λ i. opening (s .n) (s .t) (i + 1) (voteOf s i)) → BlankFrom nobody (s .n) members
+  pub starts : {members : List Member} → Filled nobody largest (s .n) members (λ i. opening (s .n) (s .t) (i + 1) (voteOf s i)) → BlankFrom nobody (s .n) members
       → Playing s members 0 0 true
   starts f rest = record {
     inside = omega arith;
@@ -112,8 +113,8 @@ module _ (s : Schedule) (ok : question s largest true ≡ 0) where
   }
 
   pub goes-on : {members next : List Member} {sent-so-far r k : ℕ} {speaking : Bool} → Playing s members sent-so-far r speaking → r ≤ s .t
-      → Filled nobody 32 (s .n) next (nextState fcwfa same (r + 1) members) → BlankFrom nobody (s .n) next
-      → k ≡ sum (s .n) (sent fcwfa same (r + 1) members) → k ≤ 1024
+      → Filled nobody largest (s .n) next (nextState fcwfa same (r + 1) members) → BlankFrom nobody (s .n) next
+      → k ≡ sum (s .n) (sent fcwfa same (r + 1) members) → k ≤ largest * largest
       → Playing s next (sent-so-far + k) (r + 1) (not (eqb k 0))
   goes-on {r = r} h l f rest e few =
       let so-far = h .few in
@@ -128,7 +129,7 @@ module _ (s : Schedule) (ok : question s largest true ≡ 0) where
 
 -- The end of the rounds is the end of the run.
 module _ (s : Schedule) {members : List Member} {sent-so-far r : ℕ} {speaking : Bool} (h : Playing s members sent-so-far r speaking) where
-  at-end : statesAfter fcwfa s (s .t + 1) ≡ statesAfter fcwfa s r → members ≡ tabulate 32 (stateAt fcwfa (final fcwfa s))
+  at-end : statesAfter fcwfa s (s .t + 1) ≡ statesAfter fcwfa s r → members ≡ tabulate largest (stateAt fcwfa (final fcwfa s))
   unfolding after final
   at-end e =
       let long = final-long s in
@@ -139,12 +140,12 @@ module _ (s : Schedule) {members : List Member} {sent-so-far r : ℕ} {speaking 
   unfolding messages
   counted-all e = h .counted ∙ sym e
 
-  pub ends-silent : speaking ≡ false → (members ≡ tabulate 32 (stateAt fcwfa (final fcwfa s))) × (sent-so-far ≡ messages fcwfa s)
+  pub ends-silent : speaking ≡ false → (members ≡ tabulate largest (stateAt fcwfa (final fcwfa s))) × (sent-so-far ≡ messages fcwfa s)
   ends-silent e =
       let q = h .silent e in
       (at-end (q .states (s .t + 1) (h .inside)), counted-all (sum-ends (s .t + 1) r (sentAfter fcwfa s) (h .inside) (q .sends)))
 
-  pub ends-last : s .t + 1 ≤ r → (members ≡ tabulate 32 (stateAt fcwfa (final fcwfa s))) × (sent-so-far ≡ messages fcwfa s)
+  pub ends-last : s .t + 1 ≤ r → (members ≡ tabulate largest (stateAt fcwfa (final fcwfa s))) × (sent-so-far ≡ messages fcwfa s)
   ends-last l =
       let inside = h .inside in
       let e : s .t + 1 ≡ r = omega arith in

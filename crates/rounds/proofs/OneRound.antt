@@ -11,7 +11,7 @@ use Rattle.laws.proofs.Sums.{sum-same}
 use Rattle.laws.proofs.Lists.{tabulate-same}
 use Rattle.laws.proofs.Filled.{each-so, filled-take}
 use Rattle.member.specs.declared.Member.{Member}
-use Rattle.member.specs.Opening.{largest}
+use Rattle.sets.specs.Largest.{largest}
 use Rattle.member.specs.Saying.{says}
 use Rattle.member.specs.Questions.{hearQuestion}
 use Rattle.schedule.specs.Schedule.{Schedule}
@@ -28,22 +28,22 @@ module _ (n round : ℕ) (crashes reaches : List ℕ) (members : List Member) wh
   s = crashSchedule n crashes reaches
 
   -- where nothing is sent no state changes
-  pub silent-round : 1 ≤ n → length members ≡ 32 → sum n (sent fcwfa s round members) ≡ 0 → Filled nobody 32 n members (nextState fcwfa s round members)
+  pub silent-round : 1 ≤ n → length members ≡ largest → sum n (sent fcwfa s round members) ≡ 0 → Filled nobody largest n members (nextState fcwfa s round members)
   silent-round some long z = record { long = long; at = λ i l. sym (nothing-moves fcwfa s some mute-stops round members z i l) }
 
-  module _ {codes : List ℕ} (said : Filled 0 32 n codes (λ i. says (stateAt fcwfa members i))) where
+  module _ {codes : List ℕ} (said : Filled 0 largest n codes (λ i. says (stateAt fcwfa members i))) where
     pub sent-is : {k : ℕ} → k ≡ sum n (λ j. sentBy n round (getD crashes j 0) (getD reaches j 0) (getD codes j 0)) → k ≡ sum n (sent fcwfa s round members)
     sent-is e = e ∙ sum-same n _ _ (λ j l. ap (sentBy n round (getD crashes j 0) (getD reaches j 0)) (said .at j l))
 
-    module _ (small : n ≤ 32) {to : List ℕ} (sets : Filled 0 32 n to (λ j. receiversOf 32 round (getD crashes j 0) (getD reaches j 0))) where
-      row-is : {row : List ℕ} (i : ℕ) → i < n → Filled 0 32 n row (λ j. heardOf i (getD codes j 0) (getD to j 0)) → take n row ≡ rowOf fcwfa s round members i
+    module _ (small : n ≤ largest) {to : List ℕ} (sets : Filled 0 largest n to (λ j. receiversOf largest round (getD crashes j 0) (getD reaches j 0))) where
+      row-is : {row : List ℕ} (i : ℕ) → i < n → Filled 0 largest n row (λ j. heardOf i (getD codes j 0) (getD to j 0)) → take n row ≡ rowOf fcwfa s round members i
       unfolding rowOf codeHeard
       row-is i l f =
           filled-take small f
-          ∙ tabulate-same n _ _ (λ j b. ap₂ (heardOf i) (said .at j b) (sets .at j b) ∙ heard-delivered 32 round i _ _ (omega arith) _ .same)
+          ∙ tabulate-same n _ _ (λ j b. ap₂ (heardOf i) (said .at j b) (sets .at j b) ∙ heard-delivered largest round i _ _ (omega arith) _ .same)
 
-      module _ {grid : List (List ℕ)} (rows : Each [] 32 n grid (λ (i : ℕ) (row : List ℕ). Filled 0 32 n row (λ j. heardOf i (getD codes j 0) (getD to j 0)))) where
-        pub rows-long : Each [] 32 n grid (λ (_ : ℕ) (row : List ℕ). length row ≡ 32)
+      module _ {grid : List (List ℕ)} (rows : Each [] largest n grid (λ (i : ℕ) (row : List ℕ). Filled 0 largest n row (λ j. heardOf i (getD codes j 0) (getD to j 0)))) where
+        pub rows-long : Each [] largest n grid (λ (_ : ℕ) (row : List ℕ). length row ≡ largest)
         rows-long = each-so (λ k x b f. f .long) rows
 
         row-at : (i : ℕ) → i < n → take n (getD grid i []) ≡ rowOf fcwfa s round members i
@@ -52,7 +52,7 @@ module _ (n round : ℕ) (crashes reaches : List ℕ) (members : List Member) wh
         pub listen-is : AllListen n round crashes members (rowOf fcwfa s round members) → AllListen n round crashes members (λ i. take n (getD grid i []))
         listen-is h i l c runs = ap (hearQuestion largest (stateAt fcwfa members i)) (row-at i l) ∙ h i l c runs
 
-        pub next-is : {next : List Member} → Filled nobody 32 n next (λ i. stateAfter fcwfa round (getD crashes i 0) (stateAt fcwfa members i) (take n (getD grid i [])))
-            → Filled nobody 32 n next (nextState fcwfa s round members)
+        pub next-is : {next : List Member} → Filled nobody largest n next (λ i. stateAfter fcwfa round (getD crashes i 0) (stateAt fcwfa members i) (take n (getD grid i [])))
+            → Filled nobody largest n next (nextState fcwfa s round members)
         unfolding nextState
         next-is f = each-so (λ i x b e. e ∙ ap (stateAfter fcwfa round (getD crashes i 0) (stateAt fcwfa members i)) (row-at i b)) f

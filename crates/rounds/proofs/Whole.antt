@@ -7,7 +7,7 @@ use lib.ListN.{replicate}
 use Rattle.laws.specs.Below.{tabulate}
 use Rattle.laws.proofs.Answer.{place-given, place-kept}
 use Rattle.member.specs.declared.Member.{Member}
-use Rattle.member.specs.Opening.{largest}
+use Rattle.sets.specs.Largest.{largest}
 use Rattle.schedule.specs.Schedule.{Schedule}
 use Rattle.schedule.specs.Questions.{question}
 use Rattle.schedule.proofs.Accepted.{question-accepted, accepted-question}
@@ -20,13 +20,13 @@ use Rattle.rounds.specs.Ran.{ranOf}
 
 -- A schedule with number q, and what the code leaves for it.
 module _ (s : Schedule) (answers : Bool) {q : ℕ} (asked : q ≡ question s largest answers) where
-  pub refused-leaves : {members : List Member} → (q ≡ 0 → ⊥) → members ≡ replicate 32 nobody
+  pub refused-leaves : {members : List Member} → (q ≡ 0 → ⊥) → members ≡ replicate largest nobody
       → _≡_ {A = Ran} (record { question = q; members = members; messages = 0 }) (ranOf largest s answers)
   refused-leaves other e =
       let refusing : question s largest answers ≡ 0 → ⊥ = λ z. other (asked ∙ z) in
       λ i. record {
         question = asked i;
-        members = (e ∙ sym (place-kept (question s largest answers) (tabulate 32 (stateAt fcwfa (final fcwfa s))) (replicate 32 nobody) refusing)) i;
+        members = (e ∙ sym (place-kept (question s largest answers) (tabulate largest (stateAt fcwfa (final fcwfa s))) (replicate largest nobody) refusing)) i;
         messages = sym (place-kept (question s largest answers) (messages fcwfa s) 0 refusing) i;
       }
 
@@ -48,11 +48,11 @@ module _ (s : Schedule) (answers : Bool) {q : ℕ} (asked : q ≡ question s lar
           rules = a .rules;
         }
 
-    pub accepted-leaves : {members : List Member} {sent : ℕ} → members ≡ tabulate 32 (stateAt fcwfa (final fcwfa s)) → sent ≡ messages fcwfa s
+    pub accepted-leaves : {members : List Member} {sent : ℕ} → members ≡ tabulate largest (stateAt fcwfa (final fcwfa s)) → sent ≡ messages fcwfa s
         → _≡_ {A = Ran} (record { question = q; members = members; messages = sent }) (ranOf largest s answers)
     accepted-leaves e m =
         λ i. record {
           question = asked i;
-          members = (e ∙ sym (place-given (question s largest answers) (tabulate 32 (stateAt fcwfa (final fcwfa s))) (replicate 32 nobody) passed)) i;
+          members = (e ∙ sym (place-given (question s largest answers) (tabulate largest (stateAt fcwfa (final fcwfa s))) (replicate largest nobody) passed)) i;
           messages = (m ∙ sym (place-given (question s largest answers) (messages fcwfa s) 0 passed)) i;
         }

@@ -4,6 +4,7 @@ use mathlib.Core.Bool.{Bool}
 use lib.ListN.{replicate}
 use Rattle.laws.specs.Below.{tabulate}
 use Rattle.laws.specs.Answer.{placeAfter}
+use Rattle.sets.specs.Largest.{largest}
 use Rattle.schedule.specs.Schedule.{Schedule}
 use Rattle.schedule.specs.Questions.{question}
 use Rattle.run.specs.Protocol.{fcwfa}
@@ -17,6 +18,6 @@ use Rattle.rounds.specs.Rounds.{nobody}
 abbrev pub ranOf : ℕ → Schedule → Bool → Ran
 ranOf limit s answers = record {
   question = question s limit answers;
-  members = placeAfter (question s limit answers) (tabulate 32 (stateAt fcwfa (final fcwfa s))) (replicate 32 nobody);
+  members = placeAfter (question s limit answers) (tabulate largest (stateAt fcwfa (final fcwfa s))) (replicate largest nobody);
   messages = placeAfter (question s limit answers) (messages fcwfa s) 0;
 }

@@ -6,7 +6,8 @@ use mathlib.Core.List.{List, []}
 use mathlib.Core.Bool.{true, false}
 use lib.ListN.{getD}
 use Rattle.member.specs.declared.Member.{Member}
-use Rattle.member.specs.Opening.{largest, openQuestion}
+use Rattle.sets.specs.Largest.{largest}
+use Rattle.member.specs.Opening.{openQuestion}
 use Rattle.member.specs.State.{stopped}
 use Rattle.member.specs.Saying.{says}
 use Rattle.member.specs.Questions.{sayQuestion, hearQuestion}

@@ -9,19 +9,21 @@ mod play;
 mod rows;
 
 ghost use mathlib.Core.Path.{_≡_};
-ghost use Rattle.member.specs.Opening.{largest};
+ghost use Rattle.sets.specs.Largest.{largest};
 ghost use Rattle.schedule.specs.Schedule.{scheduleOf};
 ghost use Rattle.schedule.specs.Questions.{answersOf};
 ghost use Rattle.rounds.specs.Ran.{ranOf};
 use crate::members::no_members;
 use crate::play::play;
 use member::Member;
+use sets::Set;
+use sets::WIDTH;
 
 // What the rounds of a schedule leave: the number of the first question whose answer is no, or 0; the
 // members at the end of the run, with nobody at the places that hold no member; and the messages sent.
 pub struct Ran {
     pub question: u8,
-    pub members: [Member; 32],
+    pub members: [Member; WIDTH],
     pub messages: usize,
 }
 
@@ -32,7 +34,7 @@ pub fn run(
     t: usize,
     votes: &[u8],
     crashes: &[u8],
-    reaches: &[u32],
+    reaches: &[Set],
     decisions: usize,
     rounds: usize,
 ) -> Ran

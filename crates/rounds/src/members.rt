@@ -4,7 +4,8 @@ ghost use mathlib.Core.Path.{_≡_};
 ghost use Prim.Native.Nat.{_+_, _≤_};
 ghost use lib.ListN.{length, getD, replicate};
 ghost use Rattle.laws.specs.Filled.{Filled, BlankFrom};
-ghost use Rattle.member.specs.Opening.{largest, opening, openQuestion};
+ghost use Rattle.sets.specs.Largest.{largest};
+ghost use Rattle.member.specs.Opening.{opening, openQuestion};
 ghost use Rattle.member.specs.Saying.{says};
 ghost use Rattle.member.specs.Hearing.{hears};
 ghost use Rattle.member.specs.Questions.{sayQuestion, hearQuestion};
@@ -13,6 +14,7 @@ use member::Heard;
 use member::Member;
 use member::Opened;
 use member::Said;
+use sets::WIDTH;
 
 // What stands at the places that hold no member.
 fn no_member() -> Member
@@ -28,11 +30,11 @@ fn no_member() -> Member
     }
 }
 
-pub fn no_members() -> [Member; 32]
-    ensures none { λ r. ⌜ r ≡ replicate 32 nobody ⌝ }
+pub fn no_members() -> [Member; WIDTH]
+    ensures none { λ r. ⌜ r ≡ replicate largest nobody ⌝ }
 {
     let m = no_member();
-    [m; 32]
+    [m; WIDTH]
 }
 
 // A member opened with its number and vote.
@@ -48,10 +50,10 @@ fn started(n: usize, t: usize, id: usize, vote: u8) -> Member
 }
 
 // The members of all processes, opened, and nobody at the places after them.
-pub fn start_all(n: usize, t: usize, votes: &[u8]) -> [Member; 32]
-    requires size { ⌜ (n ≤ 32) × (length (now votes) ≡ n) ⌝ }
+pub fn start_all(n: usize, t: usize, votes: &[u8]) -> [Member; WIDTH]
+    requires size { ⌜ (n ≤ largest) × (length (now votes) ≡ n) ⌝ }
     requires opens { ⌜ AllOpen n t (now votes) ⌝ }
-    ensures opened { λ r. ⌜ Filled nobody 32 n r (λ i. opening n t (i + 1) (getD (now (votes .entry)) i 0)) ⌝ }
+    ensures opened { λ r. ⌜ Filled nobody largest n r (λ i. opening n t (i + 1) (getD (now (votes .entry)) i 0)) ⌝ }
     ensures rest { λ r. ⌜ BlankFrom nobody n r ⌝ }
 {
     let mut members = no_members();

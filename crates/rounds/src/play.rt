@@ -2,11 +2,11 @@
 ghost use mathlib.Core.Path.{_≡_};
 ghost use mathlib.Core.List.{[]};
 ghost use mathlib.Core.Bool.{true};
-ghost use Prim.Native.Nat.{_≤_};
+ghost use Prim.Native.Nat.{_*_, _≤_};
 ghost use lib.ListN.{length, getD, take};
 ghost use Rattle.laws.specs.Below.{sum, tabulate};
 ghost use Rattle.laws.specs.Filled.{Each, Filled, BlankFrom};
-ghost use Rattle.member.specs.Opening.{largest};
+ghost use Rattle.sets.specs.Largest.{largest};
 ghost use Rattle.member.specs.Saying.{says};
 ghost use Rattle.schedule.specs.Schedule.{scheduleOf};
 ghost use Rattle.schedule.specs.Questions.{question};
@@ -20,14 +20,16 @@ use crate::members::state_heard;
 use crate::rows::all_receivers;
 use crate::rows::empty_grid;
 use crate::rows::fill_grid;
-use laws::zero_bytes;
 use member::Member;
+use sets::Set;
+use sets::WIDTH;
+use sets::zero_bytes;
 
 // The codes that the members say.
-fn codes_said(n: usize, members: [Member; 32]) -> [u8; 32]
-    requires size { ⌜ n ≤ 32 ⌝ }
+fn codes_said(n: usize, members: [Member; WIDTH]) -> [u8; WIDTH]
+    requires size { ⌜ n ≤ largest ⌝ }
     requires speak { ⌜ AllSpeak n members ⌝ }
-    ensures said { λ r. ⌜ Filled 0 32 n r (λ i. says (stateAt fcwfa members i)) ⌝ }
+    ensures said { λ r. ⌜ Filled 0 largest n r (λ i. says (stateAt fcwfa members i)) ⌝ }
 {
     let mut codes = zero_bytes();
     let mut i: usize = 0;
@@ -40,10 +42,10 @@ fn codes_said(n: usize, members: [Member; 32]) -> [u8; 32]
 }
 
 // The messages of a round.
-fn messages_sent(n: usize, round: u8, codes: [u8; 32], crashes: &[u8], reaches: &[u32]) -> usize
-    requires size { ⌜ (n ≤ 32) × (length (now crashes) ≡ n) × (length (now reaches) ≡ n) ⌝ }
+fn messages_sent(n: usize, round: u8, codes: [u8; WIDTH], crashes: &[u8], reaches: &[Set]) -> usize
+    requires size { ⌜ (n ≤ largest) × (length (now crashes) ≡ n) × (length (now reaches) ≡ n) ⌝ }
     ensures counted { λ r. ⌜ r ≡ sum n (λ j. sentBy n round (getD (now (crashes .entry)) j 0) (getD (now (reaches .entry)) j 0) (getD codes j 0)) ⌝ }
-    ensures few { λ r. ⌜ r ≤ 1024 ⌝ }
+    ensures few { λ r. ⌜ r ≤ largest * largest ⌝ }
 {
     let mut messages: usize = 0;
     let mut j: usize = 0;
@@ -74,17 +76,17 @@ fn next_state(round: u8, crash: u8, code: u8, m: Member, row: &[u8]) -> Member
 fn hear_rows(
     n: usize,
     round: u8,
-    members: [Member; 32],
-    codes: [u8; 32],
-    grid: &[[u8; 32]],
+    members: [Member; WIDTH],
+    codes: [u8; WIDTH],
+    grid: &[[u8; WIDTH]],
     crashes: &[u8],
-) -> [Member; 32]
-    requires size { ⌜ (n ≤ 32) × (length (now crashes) ≡ n) × (length members ≡ 32) ⌝ }
+) -> [Member; WIDTH]
+    requires size { ⌜ (n ≤ largest) × (length (now crashes) ≡ n) × (length members ≡ largest) ⌝ }
     requires rest { ⌜ BlankFrom nobody n members ⌝ }
-    requires long { ⌜ Each [] 32 n (now grid) (λ _ row. length row ≡ 32) ⌝ }
+    requires long { ⌜ Each [] largest n (now grid) (λ _ row. length row ≡ largest) ⌝ }
     requires said { ⌜ Said n codes members ⌝ }
     requires listen { ⌜ AllListen n round (now crashes) members (λ i. take n (getD (now grid) i [])) ⌝ }
-    ensures next { λ r. ⌜ Filled nobody 32 n r (λ i. stateAfter fcwfa round (getD (now (crashes .entry)) i 0) (stateAt fcwfa members i) (take n (getD (now (grid .entry)) i []))) ⌝ }
+    ensures next { λ r. ⌜ Filled nobody largest n r (λ i. stateAfter fcwfa round (getD (now (crashes .entry)) i 0) (stateAt fcwfa members i) (take n (getD (now (grid .entry)) i []))) ⌝ }
     ensures rest { λ r. ⌜ BlankFrom nobody n r ⌝ }
 {
     let mut next = members;
@@ -101,20 +103,26 @@ fn hear_rows(
 
 // The states after a round, or after a run, and the messages sent in it.
 pub struct Played {
-    pub members: [Member; 32],
+    pub members: [Member; WIDTH],
     pub messages: usize,
 }
 
 // One round. Where nothing is sent in it, no state changes.
-fn play_round(n: usize, round: u8, members: [Member; 32], crashes: &[u8], reaches: &[u32]) -> Played
-    requires size { ⌜ (1 ≤ n) × (n ≤ 32) × (length (now crashes) ≡ n) × (length (now reaches) ≡ n) × (length members ≡ 32) ⌝ }
+fn play_round(
+    n: usize,
+    round: u8,
+    members: [Member; WIDTH],
+    crashes: &[u8],
+    reaches: &[Set],
+) -> Played
+    requires size { ⌜ (1 ≤ n) × (n ≤ largest) × (length (now crashes) ≡ n) × (length (now reaches) ≡ n) × (length members ≡ largest) ⌝ }
     requires rest { ⌜ BlankFrom nobody n members ⌝ }
     requires speak { ⌜ AllSpeak n members ⌝ }
     requires listen { ⌜ AllListen n round (now crashes) members (rowOf fcwfa (crashSchedule n (now crashes) (now reaches)) round members) ⌝ }
-    ensures next { λ r. ⌜ Filled nobody 32 n (r .members) (nextState fcwfa (crashSchedule n (now (crashes .entry)) (now (reaches .entry))) round members) ⌝ }
+    ensures next { λ r. ⌜ Filled nobody largest n (r .members) (nextState fcwfa (crashSchedule n (now (crashes .entry)) (now (reaches .entry))) round members) ⌝ }
     ensures rest { λ r. ⌜ BlankFrom nobody n (r .members) ⌝ }
     ensures counted { λ r. ⌜ r .messages ≡ sum n (sent fcwfa (crashSchedule n (now (crashes .entry)) (now (reaches .entry))) round members) ⌝ }
-    ensures few { λ r. ⌜ r .messages ≤ 1024 ⌝ }
+    ensures few { λ r. ⌜ r .messages ≤ largest * largest ⌝ }
 {
     let codes = codes_said(n, members);
     let messages = messages_sent(n, round, codes, crashes, reaches);
@@ -135,9 +143,9 @@ fn play_round(n: usize, round: u8, members: [Member; 32], crashes: &[u8], reache
 }
 
 // The run of an accepted schedule: rounds 1 to t + 1, up to the first in which nothing is sent.
-pub fn play(n: usize, t: usize, votes: &[u8], crashes: &[u8], reaches: &[u32]) -> Played
+pub fn play(n: usize, t: usize, votes: &[u8], crashes: &[u8], reaches: &[Set]) -> Played
     requires accepted { ⌜ question (scheduleOf n t (now votes) (now crashes) (now reaches)) largest true ≡ 0 ⌝ }
-    ensures ended { λ r. ⌜ r .members ≡ tabulate 32 (stateAt fcwfa (final fcwfa (scheduleOf n t (now (votes .entry)) (now (crashes .entry)) (now (reaches .entry))))) ⌝ }
+    ensures ended { λ r. ⌜ r .members ≡ tabulate largest (stateAt fcwfa (final fcwfa (scheduleOf n t (now (votes .entry)) (now (crashes .entry)) (now (reaches .entry))))) ⌝ }
     ensures counted { λ r. ⌜ r .messages ≡ Report·messages fcwfa (scheduleOf n t (now (votes .entry)) (now (crashes .entry)) (now (reaches .entry))) ⌝ }
 {
     let mut members = start_all(n, t, votes);

@@ -4,23 +4,26 @@ ghost use mathlib.Core.List.{List, []};
 ghost use Prim.Native.Nat.{ℕ, _≤_, _<_};
 ghost use lib.ListN.{length, getD};
 ghost use Rattle.laws.specs.Filled.{Each, Filled};
+ghost use Rattle.sets.specs.Largest.{largest};
 ghost use Rattle.delivery.specs.Receivers.{receiversOf, heardOf};
-use laws::zero_bytes;
-use laws::zero_words;
+use sets::Set;
+use sets::WIDTH;
+use sets::zero_bytes;
+use sets::zero_sets;
 
-pub fn empty_grid() -> [[u8; 32]; 32]
-    ensures long { λ r. ⌜ length r ≡ 32 ⌝ }
+pub fn empty_grid() -> [[u8; WIDTH]; WIDTH]
+    ensures long { λ r. ⌜ length r ≡ largest ⌝ }
 {
     let row = zero_bytes();
-    [row; 32]
+    [row; WIDTH]
 }
 
 // The receivers of what each process says in the round.
-pub fn all_receivers(n: usize, round: u8, crashes: &[u8], reaches: &[u32]) -> [u32; 32]
-    requires size { ⌜ (n ≤ 32) × (length (now crashes) ≡ n) × (length (now reaches) ≡ n) ⌝ }
-    ensures sets { λ r. ⌜ Filled 0 32 n r (λ j. receiversOf 32 round (getD (now (crashes .entry)) j 0) (getD (now (reaches .entry)) j 0)) ⌝ }
+pub fn all_receivers(n: usize, round: u8, crashes: &[u8], reaches: &[Set]) -> [Set; WIDTH]
+    requires size { ⌜ (n ≤ largest) × (length (now crashes) ≡ n) × (length (now reaches) ≡ n) ⌝ }
+    ensures sets { λ r. ⌜ Filled 0 largest n r (λ j. receiversOf largest round (getD (now (crashes .entry)) j 0) (getD (now (reaches .entry)) j 0)) ⌝ }
 {
-    let mut to = zero_words();
+    let mut to = zero_sets();
     let mut j: usize = 0;
     while j < n {
         to[j] = delivery::receivers(round, crashes[j], reaches[j]);
@@ -30,9 +33,9 @@ pub fn all_receivers(n: usize, round: u8, crashes: &[u8], reaches: &[u32]) -> [u
 }
 
 // The row that the process at place `hearer` hears, of the codes that are said to these receivers.
-fn row_of(n: usize, hearer: usize, codes: [u8; 32], to: [u32; 32]) -> [u8; 32]
-    requires size { ⌜ n ≤ 32 ⌝ }
-    ensures heard { λ r. ⌜ Filled 0 32 n r (λ j. heardOf hearer (getD codes j 0) (getD to j 0)) ⌝ }
+fn row_of(n: usize, hearer: usize, codes: [u8; WIDTH], to: [Set; WIDTH]) -> [u8; WIDTH]
+    requires size { ⌜ n ≤ largest ⌝ }
+    ensures heard { λ r. ⌜ Filled 0 largest n r (λ j. heardOf hearer (getD codes j 0) (getD to j 0)) ⌝ }
 {
     let mut row = zero_bytes();
     let mut j: usize = 0;
@@ -44,9 +47,9 @@ fn row_of(n: usize, hearer: usize, codes: [u8; 32], to: [u32; 32]) -> [u8; 32]
 }
 
 // Stores the rows of all processes, each at the place of its process.
-pub fn fill_grid(n: usize, codes: [u8; 32], to: [u32; 32], grid: &mut [[u8; 32]])
-    requires size { ⌜ (n ≤ 32) × (length (now grid) ≡ 32) ⌝ }
-    ensures heard { λ _. ⌜ Each [] 32 n (now (grid .exit)) (λ (i : ℕ) (row : List ℕ). Filled 0 32 n row (λ j. heardOf i (getD codes j 0) (getD to j 0))) ⌝ }
+pub fn fill_grid(n: usize, codes: [u8; WIDTH], to: [Set; WIDTH], grid: &mut [[u8; WIDTH]])
+    requires size { ⌜ (n ≤ largest) × (length (now grid) ≡ largest) ⌝ }
+    ensures heard { λ _. ⌜ Each [] largest n (now (grid .exit)) (λ (i : ℕ) (row : List ℕ). Filled 0 largest n row (λ j. heardOf i (getD codes j 0) (getD to j 0))) ⌝ }
 {
     let mut i: usize = 0;
     while i < n {

@@ -14,7 +14,8 @@ use Rattle.laws.proofs.Test.{true-or-false, and-both, and-no-left, and-no-right
 use Rattle.laws.proofs.Counting.{split}
 use Rattle.laws.proofs.Lists.{length-tabulate, getD-tabulate}
 use Rattle.member.specs.Saying.{nothing}
-use Rattle.schedule.specs.Schedule.{Schedule, names, voteOf, crashOf, reachOf}
+use Rattle.sets.specs.Sets.{names}
+use Rattle.schedule.specs.Schedule.{Schedule, voteOf, crashOf, reachOf}
 use Rattle.run.specs.Protocol.{Protocol}
 use Rattle.run.specs.Run.{completesRound, isHeard, delivered, completes, stateAt, codeHeard, rowOf, stateAfter, nextState, played, opened, statesAfter, after}
 use Rattle.run.specs.Report.{sentBy}

@@ -10,7 +10,8 @@ use borrow.Author.Tests.{eqb-true, eqb-false}
 use Rattle.laws.specs.Below.{tabulate}
 use Rattle.laws.proofs.Test.{true-or-false}
 use Rattle.laws.proofs.Counting.{split}
-use Rattle.schedule.specs.Schedule.{Schedule, names, voteOf, reachOf}
+use Rattle.sets.specs.Sets.{names}
+use Rattle.schedule.specs.Schedule.{Schedule, voteOf, reachOf}
 use Rattle.schedule.specs.Questions.{Rules}
 use Rattle.run.specs.Protocol.{Protocol}
 use Rattle.run.specs.Run.{stateAt, codeHeard, rowOf, statesAfter, after}

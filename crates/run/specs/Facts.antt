@@ -11,7 +11,8 @@ use Rattle.member.specs.Opening.{openQuestion}
 use Rattle.member.specs.State.{stopped}
 use Rattle.member.specs.Saying.{nothing}
 use Rattle.member.specs.Questions.{sayQuestion, hearQuestion}
-use Rattle.schedule.specs.Schedule.{Schedule, names, voteOf, crashOf, reachOf, crashedBy}
+use Rattle.sets.specs.Sets.{names}
+use Rattle.schedule.specs.Schedule.{Schedule, voteOf, crashOf, reachOf, crashedBy}
 use Rattle.run.specs.Protocol.{Protocol, fcwfa}
 use Rattle.run.specs.Run.{stateAt, codeHeard, rowOf, statesAfter, after, final}
 use Rattle.run.specs.Report.{roundOf, before, sent, sentAfter, report}

@@ -6,7 +6,8 @@ use lib.ListN.{getD}
 use lib.Dec.{ltb, eqb}
 use Rattle.laws.specs.Below.{tabulate}
 use Rattle.member.specs.Saying.{nothing}
-use Rattle.schedule.specs.Schedule.{Schedule, names, voteOf, crashOf, reachOf}
+use Rattle.sets.specs.Sets.{names}
+use Rattle.schedule.specs.Schedule.{Schedule, voteOf, crashOf, reachOf}
 use Rattle.run.specs.Protocol.{Protocol}
 
 -- "In round r a process with crash round c = 0 or c > r completes the round."

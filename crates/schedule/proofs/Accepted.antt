@@ -10,7 +10,8 @@ use lib.Dec.{ltb, eqb}
 use Rattle.laws.specs.Answer.{ask, andThen}
 use Rattle.laws.proofs.Test.{and-left, and-right, within-low, within-high, within-is}
 use Rattle.laws.proofs.Answer.{passed, and-then-passed, ask-each-passed, ask-each-passes}
-use Rattle.schedule.specs.Schedule.{Schedule, names, voteOf, crashOf, reachOf, crashCount}
+use Rattle.sets.specs.Sets.{names}
+use Rattle.schedule.specs.Schedule.{Schedule, voteOf, crashOf, reachOf, crashCount}
 use Rattle.schedule.specs.Questions.{tablesOf, answersOf, tablesLong, reachRight, entryQuestion, processQuestion, question, ProcessRules, Accepted}
 
 -- `not a || b` says that b holds where a does.

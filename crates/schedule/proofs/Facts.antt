@@ -3,7 +3,7 @@ use Rattle.schedule.specs.Schedule.{Schedule, reachOf}
 use Rattle.schedule.specs.Facts.{ScheduleFacts}
 use Rattle.schedule.proofs.Accepted.{question-accepted, accepted-question}
 use Rattle.schedule.proofs.Crashes.{all-crashes}
-use Rattle.schedule.proofs.Reach.{ones-named}
+use Rattle.sets.proofs.Bits.{ones-named}
 
 pub schedule-facts : (s : Schedule) → ScheduleFacts s
 schedule-facts s = record {

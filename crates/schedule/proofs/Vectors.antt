@@ -3,7 +3,8 @@ use mathlib.Core.Path.{refl}
 use Rattle.laws.specs.Test.{within}
 use Rattle.laws.specs.Below.{sum, count, fold}
 use Rattle.laws.specs.Answer.{ask, andThen, askEach}
-use Rattle.schedule.specs.Schedule.{names, crashesIn}
+use Rattle.sets.specs.Sets.{names}
+use Rattle.schedule.specs.Schedule.{crashesIn}
 use Rattle.schedule.specs.Questions.{reachRight, entryQuestion, tablesOf, answersOf, question}
 use Rattle.schedule.specs.Vectors.{ScheduleVectors}
 

@@ -4,7 +4,8 @@ use mathlib.Core.Path.{_≡_}
 use mathlib.Core.Bool.{Bool}
 use lib.Count.{ones}
 use Rattle.laws.specs.Below.{count}
-use Rattle.schedule.specs.Schedule.{Schedule, names, reachOf, crashCount, crashedBy}
+use Rattle.sets.specs.Sets.{names}
+use Rattle.schedule.specs.Schedule.{Schedule, reachOf, crashCount, crashedBy}
 use Rattle.schedule.specs.Questions.{question, ProcessRules, Rules, Accepted}
 
 pub record ScheduleFacts (s : Schedule) : Type 0 where

@@ -1,8 +1,8 @@
 -- A schedule: the size of a cluster, how many crashes it is set up to bear, and the votes and crashes of its processes.
 -- The process at place i of the tables, counted from 0, has the number i + 1. Definitions and laws speak of places.
-use Prim.Native.Nat.{ℕ, _/_, _%_, _^_}
+use Prim.Native.Nat.{ℕ}
 use mathlib.Core.List.{List}
-use mathlib.Core.Bool.{Bool, not}
+use mathlib.Core.Bool.{not}
 use lib.ListN.{getD}
 use lib.Dec.{eqb}
 use Rattle.laws.specs.Test.{within}
@@ -11,6 +11,7 @@ use Rattle.laws.specs.Below.{count}
 pub record Schedule : Type 0 where
   pub n : ℕ
   pub t : ℕ
+  -- "A vote is 0 (abort) or 1 (commit). A crash round is 0 (never) or 1 to t + 1. A reach names the processes that get the message of the crash round"
   pub votes : List ℕ
   pub crashes : List ℕ
   pub reaches : List ℕ
@@ -18,10 +19,6 @@ pub record Schedule : Type 0 where
 -- the schedule of a call's arguments
 abbrev pub scheduleOf : ℕ → ℕ → List ℕ → List ℕ → List ℕ → Schedule
 scheduleOf n t votes crashes reaches = record { n = n; t = t; votes = votes; crashes = crashes; reaches = reaches }
-
--- "A reach names the processes that get the message of the crash round; as a number, bit i − 1 stands for process i."
-unfoldable pub names : ℕ → ℕ → Bool
-names reach i = eqb (reach / 2 ^ i % 2) 1
 
 -- "f is the number of processes whose crash round isn't 0.": of the first n of a table of crash rounds
 unfoldable pub crashesIn : ℕ → List ℕ → ℕ

@@ -14,7 +14,7 @@ use Rattle.laws.proofs.Test.{and-left, and-right}
 use Rattle.laws.proofs.Lists.{length-tabulate, getD-tabulate, tabulate-same}
 use Rattle.laws.proofs.Answer.{answer-accepted, answer-refused, valueOr, not-accepted, place-given, place-kept}
 use Rattle.member.specs.declared.Member.{Member}
-use Rattle.member.specs.Opening.{largest}
+use Rattle.sets.specs.Largest.{largest}
 use Rattle.schedule.specs.Schedule.{Schedule, crashesIn}
 use Rattle.schedule.specs.Questions.{answersOf, Accepted}
 use Rattle.schedule.proofs.Accepted.{both-long, question-accepted}
@@ -60,20 +60,20 @@ module _ (s : Schedule) (decisions rounds : List ℕ) {ran : Ran} (left : ran �
     pub tables-long : (length decisions ≡ s .n) × (length rounds ≡ s .n)
     tables-long = both-long (s .n) _ _ (accepts .answers-long)
 
-    pub small : s .n ≤ 32
+    pub small : s .n ≤ largest
     small = accepts .n-high
 
     given-table : (given lent : List ℕ) → given ≡ placeAfter (simulateQuestion largest s decisions rounds) given lent
     given-table given lent = sym (place-given _ given lent passed)
 
     -- the members are the states at the end of the run, and the messages those of the run
-    members-are : ran .members ≡ tabulate 32 (stateAt fcwfa (final fcwfa s))
-    members-are = ap (λ (r : Ran). r .members) left ∙ place-given _ (tabulate 32 (stateAt fcwfa (final fcwfa s))) _ passed
+    members-are : ran .members ≡ tabulate largest (stateAt fcwfa (final fcwfa s))
+    members-are = ap (λ (r : Ran). r .members) left ∙ place-given _ (tabulate largest (stateAt fcwfa (final fcwfa s))) _ passed
 
     state-at : (i : ℕ) → i < s .n → stateAt fcwfa (ran .members) i ≡ stateAt fcwfa (final fcwfa s) i
     state-at i l =
         let n-high = small in
-        ap (λ (states : List Member). stateAt fcwfa states i) members-are ∙ getD-tabulate 32 (stateAt fcwfa (final fcwfa s)) i (fcwfa .nobody) (omega arith)
+        ap (λ (states : List Member). stateAt fcwfa states i) members-are ∙ getD-tabulate largest (stateAt fcwfa (final fcwfa s)) i (fcwfa .nobody) (omega arith)
 
     messages-are : ran .messages ≡ messages fcwfa s
     messages-are = ap (λ (r : Ran). r .messages) left ∙ place-given _ (messages fcwfa s) 0 passed

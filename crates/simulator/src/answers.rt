@@ -5,11 +5,13 @@ ghost use Prim.Native.Nat.{_≤_};
 ghost use lib.Dec.{eqb};
 ghost use lib.ListN.{length, getD};
 ghost use Rattle.laws.specs.Below.{tabulate};
+ghost use Rattle.sets.specs.Largest.{largest};
 ghost use Rattle.schedule.specs.Schedule.{crashesIn};
 ghost use Rattle.run.specs.Protocol.{fcwfa};
 ghost use Rattle.run.specs.Report.{firstOf, lastOf, roundOf, decisionOf};
 use crate::Counts;
 use member::Member;
+use sets::WIDTH;
 
 // The decision of a member, 2 for none.
 fn decision(m: Member) -> u8
@@ -19,8 +21,8 @@ fn decision(m: Member) -> u8
 }
 
 // Fills the two tables from the states at the end of the run.
-pub fn fill(members: [Member; 32], decisions: &mut [u8], rounds: &mut [u8])
-    requires size { ⌜ (length (now decisions) ≤ 32) × (length (now rounds) ≡ length (now decisions)) ⌝ }
+pub fn fill(members: [Member; WIDTH], decisions: &mut [u8], rounds: &mut [u8])
+    requires size { ⌜ (length (now decisions) ≤ largest) × (length (now rounds) ≡ length (now decisions)) ⌝ }
     ensures decided { λ _. ⌜ now (decisions .exit) ≡ tabulate (length (now (decisions .entry))) (decisionOf fcwfa members) ⌝ }
     ensures timed { λ _. ⌜ now (rounds .exit) ≡ tabulate (length (now (rounds .entry))) (roundOf fcwfa members) ⌝ }
 {

@@ -5,9 +5,10 @@
 mod answers;
 
 ghost use mathlib.Core.Path.{_≡_};
-ghost use Rattle.member.specs.Opening.{largest};
+ghost use Rattle.sets.specs.Largest.{largest};
 ghost use Rattle.schedule.specs.Schedule.{scheduleOf};
 ghost use Rattle.simulator.specs.Answers.{simulatedIs, simulateAnswer, decisionsAfter, roundsAfter, AnswersKeepDemand3};
+use sets::Set;
 
 // The counts of the report.
 pub struct Counts {
@@ -30,7 +31,7 @@ pub fn simulate(
     t: usize,
     votes: &[u8],
     crashes: &[u8],
-    reaches: &[u32],
+    reaches: &[Set],
     decisions: &mut [u8],
     rounds: &mut [u8],
 ) -> Simulated

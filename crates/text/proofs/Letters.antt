@@ -1,20 +1,18 @@
--- The letters of a reach: the bits of a number below 2 ^ n add up to it, and what bits add up to has them for its bits. So a reach's letters are
--- read as that reach, and where a reach is read, its letters stand there. Assumes nothing.
-use mathlib.Core.Path.{_≡_, refl, sym, ap, ap₂, _∙_}
+-- The letters of a reach are its bits, and a set is the one of its bits: so a reach's letters are read as that reach, and where a reach is read, its
+-- letters stand there. Assumes nothing.
+use mathlib.Core.Path.{_≡_, refl, sym, ap, _∙_}
 use mathlib.Core.List.{List, _∷_, _++_}
 use mathlib.Core.Bool.{Bool, true}
-use Prim.Native.Nat.{ℕ, zero, suc, _+_, _-_, _*_, _/_, _%_, _^_, _≤_, _<_}
-use native.Mathlib.Nat.{add-comm, mul-le-mul-right, mod-lt, mod-eq-of-lt, mod-one}
+use Prim.Native.Nat.{ℕ, _-_, _*_, _/_, _%_, _^_, _≤_, _<_}
+use native.Mathlib.Nat.{mod-lt}
 use native.Mathlib.Omega.{arith}
-use borrow.Author.Count.{below-none}
 use borrow.Author.Tests.{eq-eqb, eqb-true}
 use lib.ListN.{length, getD, take, List·getD-append}
 use lib.Dec.{eqb}
-use lib.Pow as Pow
 use Rattle.laws.specs.Test.{within}
-use Rattle.laws.specs.Below.{sum, bit, count}
+use Rattle.laws.specs.Below.{bit, count}
 use Rattle.laws.proofs.Test.{cond-true, within-low, within-high, within-is}
-use Rattle.laws.proofs.Counting.{below-or-top, count-of-all, count-full}
+use Rattle.laws.proofs.Counting.{count-of-all, count-full}
 use Rattle.laws.proofs.Sums.{sum-same}
 use Rattle.laws.proofs.Filled.{filled-take}
 use Rattle.laws.proofs.Lists.{length-tabulate, getD-tabulate}
@@ -22,62 +20,9 @@ use Rattle.fields.specs.Found.{found, wrong}
 use Rattle.fields.specs.Decimal.{letter}
 use Rattle.fields.specs.Fields.{digitAt, ended, reachField}
 use Rattle.fields.proofs.Written.{found-if, ended-reads, ended-written}
-use Rattle.schedule.specs.Schedule.{names}
-use Rattle.schedule.proofs.Reach.{bit-is}
+use Rattle.sets.specs.Sets.{names, setOf}
+use Rattle.sets.proofs.Bits.{named-bit, set-bits, of-its-bits}
 use Rattle.text.specs.Written.{lettersOf}
-
--- the bit of a reach at place i, as a number
-named-bit : (reach i : ℕ) → bit (names reach i) ≡ reach / 2 ^ i % 2
-unfolding names
-named-bit reach i = bit-is (reach / 2 ^ i % 2) (mod-lt (reach / 2 ^ i) (omega arith))
-
-bits-sum : (n reach : ℕ) → sum n (λ j. bit (names reach j) * 2 ^ j) ≡ reach % 2 ^ n
-unfolding sum
-bits-sum zero reach = sym (mod-one reach)
-bits-sum (suc n) reach =
-    ap₂ (λ (a b : ℕ). a + b * 2 ^ n) (bits-sum n reach) (named-bit reach n)
-    ∙ add-comm (reach % 2 ^ n) (reach / 2 ^ n % 2 * 2 ^ n)
-    ∙ sym (Pow.mod-pow-add reach 1 n)
-    ∙ ap (λ (k : ℕ). reach % 2 ^ k) {x = 1 + n} {y = suc n} (omega arith)
-
--- the bits below place n are those of the n low bits
-low-names : (reach n j : ℕ) → j < n → names (reach % 2 ^ n) j ≡ names reach j
-unfolding names
-low-names reach n j l =
-    let m = n - j - 1 in
-    let exponent : n ≡ m + 1 + j = omega arith in
-    ap (λ (x : ℕ). eqb (x % 2) 1)
-    (ap (λ (k : ℕ). reach % 2 ^ k / 2 ^ j) exponent ∙ Pow.field reach (m + 1) j)
-    ∙ ap (λ (x : ℕ). eqb x 1) (Pow.mod-mod-pow (reach / 2 ^ j) m 1)
-
-module _ (d : ℕ → ℕ) where
-  abbrev valueOf : ℕ → ℕ
-  valueOf n = sum n (λ j. d j * 2 ^ j)
-
-  value-below : (n : ℕ) → ((j : ℕ) → j < n → d j ≤ 1) → valueOf n < 2 ^ n
-  unfolding sum
-  value-below zero h = omega arith
-  value-below (suc n) h =
-      let below = value-below n (λ j l. h j (omega arith)) in
-      let one : d n * 2 ^ n ≤ 1 * 2 ^ n = mul-le-mul-right (2 ^ n) (h n (omega arith)) in
-      omega arith
-
-  value-bits : (n : ℕ) → ((j : ℕ) → j < n → d j ≤ 1) → (j : ℕ) → j < n → bit (names (valueOf n) j) ≡ d j
-  unfolding sum
-  value-bits zero h = below-none (λ j. bit (names (valueOf 0) j) ≡ d j)
-  value-bits (suc n) h =
-      let few : (j : ℕ) → j < n → d j ≤ 1 = λ j l. h j (omega arith) in
-      let below = value-below n few in
-      let parts : valueOf (suc n) ≡ d n * 2 ^ n + valueOf n = add-comm (valueOf n) (d n * 2 ^ n) in
-      let top : d n ≤ 1 = h n (omega arith) in
-      below-or-top (λ j. bit (names (valueOf (suc n)) j) ≡ d j) n
-      (λ j l.
-      ap bit (sym (low-names (valueOf (suc n)) n j l))
-      ∙ ap (λ (x : ℕ). bit (names x j)) (ap (λ (x : ℕ). x % 2 ^ n) parts ∙ Pow.low (d n) n below)
-      ∙ value-bits n few j l)
-      (named-bit (valueOf (suc n)) n
-      ∙ ap (λ (x : ℕ). x % 2) (ap (λ (x : ℕ). x / 2 ^ n) parts ∙ Pow.high (d n) n below)
-      ∙ mod-eq-of-lt (omega arith))
 
 pub letters-long : (n reach : ℕ) → length (lettersOf n reach) ≡ n
 unfolding lettersOf
@@ -101,25 +46,24 @@ module _ (n reach : ℕ) (after : List ℕ) where
       let low : reach / 2 ^ j % 2 < 2 = mod-lt (reach / 2 ^ j) (omega arith) in
       within-is (letter 0) (getD startsSo j 0) (letter 1) (omega arith) (omega arith))
 
-  letters-value : reach < 2 ^ n → valueOf (λ j. getD startsSo j 0 - letter 0) n ≡ reach
+  letters-value : reach < 2 ^ n → setOf n (λ j. getD startsSo j 0 - letter 0) ≡ reach
   letters-value h =
       sum-same n (λ j. (getD startsSo j 0 - letter 0) * 2 ^ j) (λ j. bit (names reach j) * 2 ^ j)
       (λ j l. let e = letter-at j l in ap (λ (x : ℕ). x * 2 ^ j) {x = getD startsSo j 0 - letter 0} {y = bit (names reach j)} (omega arith))
-      ∙ bits-sum n reach
-      ∙ mod-eq-of-lt h
+      ∙ of-its-bits n reach h
 
 -- Letters 0 and 1 at the start of a text are those of the number that they add up to.
 letters-are : (n : ℕ) (text : List ℕ) → n ≤ length text → ((j : ℕ) → j < n → within (letter 0) (getD text j 0) (letter 1) ≡ true)
-    → take n text ≡ lettersOf n (valueOf (λ j. getD text j 0 - letter 0) n)
+    → take n text ≡ lettersOf n (setOf n (λ j. getD text j 0 - letter 0))
 unfolding lettersOf
 letters-are n text inside right =
     let d : ℕ → ℕ = λ j. getD text j 0 - letter 0 in
     let low : (j : ℕ) → j < n → 48 ≤ getD text j 0 = λ j l. within-low (letter 0) (getD text j 0) (letter 1) (right j l) in
     let high : (j : ℕ) → j < n → getD text j 0 ≤ 49 = λ j l. within-high (letter 0) (getD text j 0) (letter 1) (right j l) in
-    let bits = value-bits d n (λ j l. let h = high j l in omega arith) in
+    let bits = set-bits d n (λ j l. let h = high j l in omega arith) in
     filled-take {d = 0} inside (record {
       long = refl;
-      at = λ j l. let h = low j l in let b : bit (names (valueOf d n) j) ≡ getD text j 0 - letter 0 = bits j l in omega arith;
+      at = λ j l. let h = low j l in let b : bit (names (setOf n d) j) ≡ getD text j 0 - letter 0 = bits j l in omega arith;
     })
 
 module _ (end : ℕ) where
@@ -135,7 +79,7 @@ module _ (end : ℕ) where
   unfolding reachField
   reach-written text n reach rest e =
       let right : ℕ → Bool = λ j. within (letter 0) (getD text j 0) (letter 1) in
-      let value = valueOf (digitAt end text) n in
+      let value = setOf n (digitAt end text) in
       let all = found-if reach rest (eqb (count n right) n) (ended end text value n) e in
       let w = ended-written end text value n reach rest (all .1) in
       let inside : n < length text = w .1 in

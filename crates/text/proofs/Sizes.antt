@@ -10,7 +10,7 @@ use Rattle.lines.specs.Lines.{lf}
 use Rattle.fields.specs.Decimal.{decimal}
 use Rattle.fields.specs.Fields.{space}
 use Rattle.fields.proofs.Digits.{decimal-short}
-use Rattle.member.specs.Opening.{largest}
+use Rattle.sets.specs.Largest.{largest}
 use Rattle.schedule.specs.Schedule.{Schedule, voteOf, crashOf, reachOf}
 use Rattle.schedule.specs.Questions.{Accepted}
 use Rattle.text.specs.Written.{field, eachLine, sizesLine, processLine, textOf}
@@ -43,7 +43,7 @@ each-short (suc n) most line h =
     omega arith
 
 module _ (s : Schedule) (ok : Accepted s largest true) where
-  line-short : (i : ℕ) → i < s .n → length (processLine (s .n) i (voteOf s i) (crashOf s i) (reachOf s i)) ≤ 42
+  line-short : (i : ℕ) → i < s .n → length (processLine (s .n) i (voteOf s i) (crashOf s i) (reachOf s i)) ≤ largest + 10
   line-short i l =
       let n-high = ok .n-high in
       let t-high = ok .rules .t-high in
@@ -59,5 +59,5 @@ module _ (s : Schedule) (ok : Accepted s largest true) where
       let t-high = ok .rules .t-high in
       let n = field-short (s .n) space (omega arith) in
       let t = field-short (s .t) lf (omega arith) in
-      let lines = each-short (s .n) 42 (λ i. processLine (s .n) i (voteOf s i) (crashOf s i) (reachOf s i)) line-short in
+      let lines = each-short (s .n) (largest + 10) (λ i. processLine (s .n) i (voteOf s i) (crashOf s i) (reachOf s i)) line-short in
       simp length-append (omega arith)

@@ -6,7 +6,7 @@ use Prim.Native.Nat.{ℕ, _≤_}
 use native.Mathlib.Omega.{arith}
 use Rattle.laws.specs.Answer.{accepted, refused}
 use Rattle.lines.specs.Lines.{lineOf}
-use Rattle.member.specs.Opening.{largest}
+use Rattle.sets.specs.Largest.{largest}
 use Rattle.schedule.specs.Schedule.{Schedule}
 use Rattle.schedule.proofs.Accepted.{question-accepted}
 use Rattle.run.specs.Protocol.{fcwfa}

@@ -11,7 +11,8 @@ use Rattle.fields.specs.Fields.{startsWith, hasByte, ended, numberField, digitF
 use Rattle.member.specs.State.{stopped}
 use Rattle.member.specs.Saying.{says}
 use Rattle.member.specs.Hearing.{codes, told, zerosOnly, quiet, enough, ruleMet, firstEstimate, lowered, toldValue, byRule, becomes}
-use Rattle.schedule.specs.Schedule.{names, crashesIn}
+use Rattle.sets.specs.Sets.{names}
+use Rattle.schedule.specs.Schedule.{crashesIn}
 use Rattle.schedule.specs.Questions.{reachRight, entryQuestion}
 use Rattle.run.specs.Run.{completesRound, isHeard, delivered, codeHeard, rowOf, stateAfter, nextState, played, opened, statesAfter, final}
 use Rattle.run.specs.Report.{sentBy, messages, decisionOf, before, firstWith, firstOf, lastOf}

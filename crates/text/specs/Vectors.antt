@@ -7,7 +7,7 @@ use mathlib.Core.List.{List, [], _∷_, map}
 use lib.ListN.{length}
 use Rattle.laws.specs.Quoted.{quoted}
 use Rattle.lines.specs.Lines.{lf}
-use Rattle.member.specs.Opening.{largest}
+use Rattle.sets.specs.Largest.{largest}
 use Rattle.text.specs.Reading.{longest}
 use Rattle.text.specs.Output.{outputOf}
 

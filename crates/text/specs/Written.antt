@@ -5,7 +5,8 @@ use Rattle.laws.specs.Below.{bit, tabulate, fold}
 use Rattle.lines.specs.Lines.{lf}
 use Rattle.fields.specs.Decimal.{letter, decimal}
 use Rattle.fields.specs.Fields.{space}
-use Rattle.schedule.specs.Schedule.{Schedule, names, voteOf, crashOf, reachOf}
+use Rattle.sets.specs.Sets.{names}
+use Rattle.schedule.specs.Schedule.{Schedule, voteOf, crashOf, reachOf}
 use Rattle.text.specs.Forms.{sizesHeading, processesHeading}
 
 -- a number and the byte that ends its field

@@ -9,7 +9,7 @@ use lib.Dec.{leb}
 use lib.ListN.{length}
 use Rattle.laws.specs.Answer.{ask}
 use Rattle.laws.proofs.Test.{and-left, was-false, was-true}
-use Rattle.member.specs.Opening.{largest}
+use Rattle.sets.specs.Largest.{largest}
 use Rattle.schedule.specs.Schedule.{Schedule, scheduleOf, crashesIn}
 use Rattle.schedule.specs.Questions.{tablesLong, answersOf, question}
 use Rattle.schedule.proofs.Accepted.{table-lengths}

@@ -7,7 +7,7 @@ use borrow.Author.Needs.{needs}
 use Rattle.laws.specs.Test.{within}
 use Rattle.laws.specs.Answer.{ask}
 use Rattle.laws.proofs.Test.{was-false, was-true, within-low}
-use Rattle.member.specs.Opening.{largest}
+use Rattle.sets.specs.Largest.{largest}
 use Rattle.acceptance.proofs.size_question.Statement.{statement}
 use Rattle.acceptance.proofs.size_question.Tie as tie
 

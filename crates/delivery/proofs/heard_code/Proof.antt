@@ -2,7 +2,7 @@
 use mathlib.Core.Path.{sym, _∙_}
 use borrow.Author.Needs.{needs}
 use Rattle.laws.proofs.Test.{cond-true, cond-false}
-use Rattle.schedule.specs.Schedule.{names}
+use Rattle.sets.specs.Sets.{names}
 use Rattle.delivery.specs.Receivers.{heardOf}
 use Rattle.delivery.proofs.heard_code.Statement.{statement}
 use Rattle.delivery.proofs.heard_code.Tie as tie

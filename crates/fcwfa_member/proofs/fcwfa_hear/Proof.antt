@@ -3,7 +3,7 @@ use mathlib.Core.Path.{sym, ap, _∙_}
 use borrow.Author.Needs.{needs}
 use denote.Ref.{now}
 use Rattle.laws.proofs.Answer.{answer-given, answer-kept}
-use Rattle.member.specs.Opening.{largest}
+use Rattle.sets.specs.Largest.{largest}
 use Rattle.member.specs.Answers.{heardIs, hearAnswer}
 use Rattle.fcwfa_member.specs.Bytes.{stateBytes}
 use Rattle.fcwfa_member.proofs.fcwfa_hear.Statement.{statement}

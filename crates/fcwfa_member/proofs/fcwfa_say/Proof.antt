@@ -2,7 +2,7 @@
 use mathlib.Core.Path.{sym, ap, _∙_}
 use borrow.Author.Needs.{needs}
 use Rattle.laws.proofs.Answer.{answer-given, answer-kept}
-use Rattle.member.specs.Opening.{largest}
+use Rattle.sets.specs.Largest.{largest}
 use Rattle.member.specs.Answers.{saidIs, sayAnswer}
 use Rattle.fcwfa_member.proofs.fcwfa_say.Statement.{statement}
 use Rattle.fcwfa_member.proofs.fcwfa_say.Tie as tie

@@ -10,13 +10,15 @@ use Rattle.laws.specs.Below.{sum}
 use Rattle.laws.proofs.Test.{was-true, was-false}
 use Rattle.fields.specs.Found.{found}
 use Rattle.fields.specs.Decimal.{letter}
-use Rattle.fields.specs.Fields.{hasByte, ended, reachField32}
+use Rattle.sets.specs.Largest.{largest}
+use Rattle.sets.specs.Sets.{setOf}
+use Rattle.fields.specs.Fields.{hasByte, ended, reachUpTo}
 use Rattle.fields.proofs.Forms.{byte-within, ended-not, ended-is, reach-long, reach-letters, reach-ended}
 use Rattle.fields.proofs.reach_field.Statement.{statement}
 use Rattle.fields.proofs.reach_field.Tie as tie
 
 returns : tie.Need-returns
-returns c = let a = c .before .before .args in (sym (reach-long (a .end) (a .text .now) (a .n) (omega arith)), tt)
+returns c = let a = c .before .before .args in (sym (reach-long (a .end) (a .text .now) largest (a .n) (omega arith)), tt)
 
 letter-count-requires : tie.Need-letter-count-requires
 letter-count-requires c κs = search needs
@@ -25,7 +27,7 @@ returns-2 : tie.Need-returns-2
 returns-2 c =
     let a = c .before .before .before .before .args in
     let letters = c .before .letter-count in
-    (sym (reach-letters (a .end) (a .text .now) (a .n) (letters .result) (letters .ensures) (omega arith) (λ e. omega arith)), tt)
+    (sym (reach-letters (a .end) (a .text .now) largest (a .n) (letters .result) (letters .ensures) (omega arith) (λ e. omega arith)), tt)
 
 has-byte-requires : tie.Need-has-byte-requires
 has-byte-requires c κs = search needs
@@ -33,11 +35,11 @@ has-byte-requires c κs = search needs
 -- every letter is right, so what is left to ask is the end
 all-right : (c : tie.Else2)
     → let a = c .before .before .before .before .args in
-    reachField32 (a .end) (a .text .now) (a .n) ≡ ended (a .end) (a .text .now) (sum (a .n) (λ j. (getD (a .text .now) j 0 - letter 0) * 2 ^ j)) (a .n)
+    reachUpTo (a .end) (a .text .now) largest (a .n) ≡ ended (a .end) (a .text .now) (setOf (a .n) (λ j. getD (a .text .now) j 0 - letter 0)) (a .n)
 all-right c =
     let a = c .before .before .before .before .args in
     let letters = c .before .letter-count in
-    reach-ended (a .end) (a .text .now) (a .n) (letters .result) (letters .ensures) (omega arith) (omega arith)
+    reach-ended (a .end) (a .text .now) largest (a .n) (letters .result) (letters .ensures) (omega arith) (omega arith)
 
 returns-3 : tie.Need-returns-3
 returns-3 c =

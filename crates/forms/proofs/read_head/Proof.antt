@@ -13,7 +13,8 @@ use Rattle.laws.specs.Answer.{accepted}
 use Rattle.lines.specs.Lines.{afterLines}
 use Rattle.lines.proofs.Parts.{part-after}
 use Rattle.fields.specs.Fields.{startsWith}
-use Rattle.member.specs.Opening.{largest, sizeQuestions}
+use Rattle.sets.specs.Largest.{largest}
+use Rattle.member.specs.Opening.{sizeQuestions}
 use Rattle.text.specs.Forms.{sizesHeading, processesHeading, Sizes, sizesAt}
 use Rattle.text.specs.Reading.{longest, isFound, sizesIn}
 use Rattle.forms.specs.Answers.{valueOf, headingIs, sizesIs}

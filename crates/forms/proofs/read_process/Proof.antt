@@ -6,7 +6,8 @@ use borrow.Author.Needs.{needs}
 use Rattle.lines.specs.Lines.{lf}
 use Rattle.lines.proofs.from.Reads as from-reads
 use Rattle.fields.specs.Found.{found}
-use Rattle.fields.specs.Fields.{space, numberField, digitField, reachField32, reachIs}
+use Rattle.sets.specs.Largest.{largest}
+use Rattle.fields.specs.Fields.{space, numberField, digitField, reachUpTo, reachIs}
 use Rattle.fields.proofs.digit_field.Reads as digit-field-reads
 use Rattle.fields.proofs.number_field.Reads as number-field-reads
 use Rattle.fields.proofs.reach_field.Reads as reach-field-reads
@@ -26,11 +27,11 @@ enum-told : tie.Need-enum-told
 enum-told c = search needs
 
 returns : tie.Need-returns
-returns c = no-id _ _ _ (field-wrong _ (c .before .before .number-field .ensures .0) (c .enum-told .given .1))
+returns c = no-id _ largest _ _ (field-wrong _ (c .before .before .number-field .ensures .0) (c .enum-told .given .1))
 
 -- no process has number 0
 returns-2 : tie.Need-returns-2
-returns-2 c = other-id _ _ _ (field-found _ (c .before .before .before .before .number-field .ensures .0) (c .before .before .id .given .1) refl) (λ e. omega arith)
+returns-2 c = other-id _ largest _ _ (field-found _ (c .before .before .before .before .number-field .ensures .0) (c .before .before .id .given .1) refl) (λ e. omega arith)
 
 sub-if2 : tie.Need-sub-if2
 sub-if2 c = search needs
@@ -39,7 +40,7 @@ cast-if2 : tie.Need-cast-if2
 cast-if2 c = search needs
 
 returns-3 : tie.Need-returns-3
-returns-3 c = other-id _ _ _ (field-found _ (c .before .before .before .before .before .number-field .ensures .0) (c .before .before .before .id .given .1) refl) (λ e. omega arith)
+returns-3 c = other-id _ largest _ _ (field-found _ (c .before .before .before .before .before .number-field .ensures .0) (c .before .before .before .id .given .1) refl) (λ e. omega arith)
 
 from-requires : tie.Need-from-requires
 from-requires c κs = search needs
@@ -61,7 +62,7 @@ own-place : (c : tie.After-from) → c .before .before .before .before .id .give
 own-place c = omega arith
 
 returns-4 : tie.Need-returns-4
-returns-4 c = let f = c .before .before .before in no-vote _ _ _ (own-number f) (own-place f) (field-wrong _ (c .before .before .digit-field .ensures .0) (c .enum-told2 .given .1))
+returns-4 c = let f = c .before .before .before in no-vote _ largest _ _ (own-number f) (own-place f) (field-wrong _ (c .before .before .digit-field .ensures .0) (c .enum-told2 .given .1))
 
 -- the vote
 vote : (c : tie.After-from2) → digitField space (c .before .before .before .before .before .from .result .now) ≡ found (c .before .before .vote .given .0 .0) (c .from2 .result .now)
@@ -83,14 +84,14 @@ returns-5 : tie.Need-returns-5
 returns-5 c =
     let g = c .before .before .before in
     let f = g .before .before .before .before .before in
-    no-crash _ _ _ (own-number f) (own-place f) (vote g) (field-wrong _ (c .before .before .number-field2 .ensures .0) (c .enum-told3 .given .1))
+    no-crash _ largest _ _ (own-number f) (own-place f) (vote g) (field-wrong _ (c .before .before .number-field2 .ensures .0) (c .enum-told3 .given .1))
 
 -- the crash round
 crash : (c : tie.After-from3) → numberField space (c .before .before .before .before .before .from2 .result .now) ≡ found (c .before .before .crash .given .0 .0) (c .from3 .result .now)
 crash c = field-found _ (c .before .before .before .before .number-field2 .ensures .0) (c .before .before .crash .given .1) (c .from3 .ensures)
 
 -- the reach, which ends with the line
-reach : (c : tie.After-reach-field) → let n = c .before .before .before .before .before .before .before .before .before .before .before .before .before .before .before .before .before .before .before .args .n in reachIs (c .before .from3 .result .now) (c .reach-field .result) ≡ reachField32 lf (c .before .from3 .result .now) n
+reach : (c : tie.After-reach-field) → let n = c .before .before .before .before .before .before .before .before .before .before .before .before .before .before .before .before .before .before .before .args .n in reachIs (c .before .from3 .result .now) (c .reach-field .result) ≡ reachUpTo lf (c .before .from3 .result .now) largest n
 reach c = c .reach-field .ensures .0
 
 from-requires-3 : tie.Need-from-requires-3
@@ -110,14 +111,14 @@ returns-6 c =
     let h = c .before .before .before in
     let g = h .before .before .before .before .before in
     let f = g .before .before .before .before .before in
-    no-reach _ _ _ (own-number f) (own-place f) (vote g) (crash h) (reach-wrong _ (reach (c .before .before)) (c .enum-told4 .given .1))
+    no-reach _ largest _ _ (own-number f) (own-place f) (vote g) (crash h) (reach-wrong _ (reach (c .before .before)) (c .enum-told4 .given .1))
 
 returns-7 : tie.Need-returns-7
 returns-7 c =
     let h = c .before .before .before .before in
     let g = h .before .before .before .before .before in
     let f = g .before .before .before .before .before in
-    whole-entry _ _ _ (own-number f) (own-place f) (vote g) (crash h) (reach-found _ (reach (c .before .before .before)) (c .before .reach .given .1))
+    whole-entry _ largest _ _ (own-number f) (own-place f) (vote g) (crash h) (reach-found _ (reach (c .before .before .before)) (c .before .reach .given .1))
 
 pub read-process-spec : {M : Type 1} → statement M
 read-process-spec =

@@ -4,7 +4,7 @@ use mathlib.Core.Bool.{true}
 use native.Mathlib.Omega.{arith}
 use borrow.Author.Tests.{ne-eqb}
 use Rattle.laws.specs.Answer.{ask, accepted, answer}
-use Rattle.member.specs.Opening.{largest}
+use Rattle.sets.specs.Largest.{largest}
 use Rattle.member.specs.State.{inRange, stopped}
 use Rattle.member.specs.Questions.{hearQuestion}
 use Rattle.member.specs.Answers.{saidIs, sayAnswer, hearAnswer}

@@ -7,7 +7,8 @@ use Rattle.member.specs.State.{stopped}
 use Rattle.member.specs.Saying.{says}
 use Rattle.member.specs.Hearing.{codes, told, zerosOnly, quiet, enough, ruleMet, firstEstimate, lowered, toldValue, byRule, becomes}
 use Rattle.laws.specs.Answer.{ask, andThen, askEach}
-use Rattle.schedule.specs.Schedule.{names, crashesIn}
+use Rattle.sets.specs.Sets.{names}
+use Rattle.schedule.specs.Schedule.{crashesIn}
 use Rattle.schedule.specs.Questions.{tablesOf, reachRight, entryQuestion, question}
 use Rattle.run.specs.Run.{completesRound, isHeard, delivered, codeHeard, rowOf, stateAfter, nextState, played, opened, statesAfter, final}
 use Rattle.run.specs.Report.{sentBy, messages, decisionOf, before, firstWith, firstOf, lastOf}

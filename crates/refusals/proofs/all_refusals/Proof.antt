@@ -4,7 +4,8 @@ use mathlib.Core.Path.{refl}
 use Rattle.laws.specs.Test.{within}
 use Rattle.laws.specs.Below.{sum, count, fold}
 use Rattle.laws.specs.Answer.{ask, andThen, askEach}
-use Rattle.schedule.specs.Schedule.{names, crashesIn}
+use Rattle.sets.specs.Sets.{names}
+use Rattle.schedule.specs.Schedule.{crashesIn}
 use Rattle.schedule.specs.Questions.{tablesOf, reachRight, entryQuestion, question}
 use Rattle.refusals.proofs.all_refusals.Statement.{statement}
 use Rattle.refusals.proofs.all_refusals.Tie as tie

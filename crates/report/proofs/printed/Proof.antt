@@ -4,7 +4,7 @@ use mathlib.Core.Path.{_≡_, sym, ap, _∙_}
 use borrow.Author.Needs.{needs}
 use lib.ListN.{length, take}
 use Rattle.laws.specs.Answer.{accepted, refused}
-use Rattle.member.specs.Opening.{largest}
+use Rattle.sets.specs.Largest.{largest}
 use Rattle.schedule.specs.Schedule.{scheduleOf}
 use Rattle.text.specs.Reading.{longest, scheduleIn}
 use Rattle.forms.specs.Answers.{readingIs}
@@ -20,8 +20,8 @@ zero-bytes-requires c κs = search needs
 zero-bytes-requires-2 : tie.Need-zero-bytes-requires-2
 zero-bytes-requires-2 c κs = search needs
 
-zero-words-requires : tie.Need-zero-words-requires
-zero-words-requires c κs = search needs
+zero-sets-requires : tie.Need-zero-sets-requires
+zero-sets-requires c κs = search needs
 
 slice-aggregate-read : tie.Need-slice-aggregate-read
 slice-aggregate-read c = search needs
@@ -38,12 +38,12 @@ read-requires c κs = search needs
 enum-known-reading : tie.Need-enum-known-reading
 enum-known-reading c = search needs
 
--- the reader's own tables have 32 entries
-sized : (c : tie.After-read) → (length (c .before .before .before .before .before .before .zero-bytes .result) ≡ 32) × (length (c .before .before .before .before .before .zero-bytes2 .result) ≡ 32) × (length (c .before .before .before .before .zero-words .result) ≡ 32)
+-- the reader's own tables have an entry for each process of the largest cluster
+sized : (c : tie.After-read) → (length (c .before .before .before .before .before .before .zero-bytes .result) ≡ largest) × (length (c .before .before .before .before .before .zero-bytes2 .result) ≡ largest) × (length (c .before .before .before .before .zero-sets .result) ≡ largest)
 sized c = (search needs, search needs, search needs)
 
 -- the text is accepted
-accepts : (c : tie.After-reading) → let r = c .before .before .before .before .before in accepted (record { n = c .reading .given .0 .0; t = c .reading .given .0 .1 .0 }) ≡ readAnswer largest longest (r .before .before .before .before .before .before .before .before .args .text .now) (r .before .before .before .before .before .before .zero-bytes .result) (r .before .before .before .before .before .zero-bytes2 .result) (r .before .before .before .before .zero-words .result)
+accepts : (c : tie.After-reading) → let r = c .before .before .before .before .before in accepted (record { n = c .reading .given .0 .0; t = c .reading .given .0 .1 .0 }) ≡ readAnswer largest longest (r .before .before .before .before .before .before .before .before .args .text .now) (r .before .before .before .before .before .before .zero-bytes .result) (r .before .before .before .before .before .zero-bytes2 .result) (r .before .before .before .before .zero-sets .result)
 accepts c = let r = c .before .before .before .before .before in sym (ap readingIs (c .reading .given .1)) ∙ r .read .ensures .0
 
 -- and its schedule stands in the first n entries of the tables
@@ -64,7 +64,7 @@ enum-known-reading-2 : tie.Need-enum-known-reading-2
 enum-known-reading-2 c = search needs
 
 -- the text is refused
-refuses : (c : tie.After-reading2) → let r = c .before .before .before .before .before in refused (c .reading2 .given .0 .0) (c .reading2 .given .0 .1 .0) ≡ readAnswer largest longest (r .before .before .before .before .before .before .before .before .args .text .now) (r .before .before .before .before .before .before .zero-bytes .result) (r .before .before .before .before .before .zero-bytes2 .result) (r .before .before .before .before .zero-words .result)
+refuses : (c : tie.After-reading2) → let r = c .before .before .before .before .before in refused (c .reading2 .given .0 .0) (c .reading2 .given .0 .1 .0) ≡ readAnswer largest longest (r .before .before .before .before .before .before .before .before .args .text .now) (r .before .before .before .before .before .before .zero-bytes .result) (r .before .before .before .before .before .zero-bytes2 .result) (r .before .before .before .before .zero-sets .result)
 refuses c = let r = c .before .before .before .before .before in sym (ap readingIs (c .reading2 .given .1)) ∙ r .read .ensures .0
 
 refused-requires : tie.Need-refused-requires
@@ -95,7 +95,7 @@ printed-spec =
     (tie.spec
     zero-bytes-requires
     zero-bytes-requires-2
-    zero-words-requires
+    zero-sets-requires
     slice-aggregate-read
     slice-aggregate-read-2
     slice-aggregate-read-3

@@ -7,24 +7,24 @@ use borrow.Author.Needs.{needs}
 use borrow.Author.Tests.{eq-eqb, ne-eqb}
 use lib.Dec.{ltb}
 use Rattle.laws.proofs.Test.{was-false, was-true}
-use Rattle.schedule.specs.Schedule.{names}
+use Rattle.sets.specs.Sets.{names}
 use Rattle.schedule.specs.Questions.{reachRight}
 use Rattle.acceptance.proofs.process.is_reach_right.Statement.{statement}
 use Rattle.acceptance.proofs.process.is_reach_right.Tie as tie
 
-is-within-size-requires : tie.Need-is-within-size-requires
-is-within-size-requires c κs = search needs
+is-up-to-requires : tie.Need-is-up-to-requires
+is-up-to-requires c κs = search needs
 
 returns : tie.Need-returns
 unfolding reachRight
 returns c =
     let a = c .before .before .args in
-    let h1 : ltb (a .reach) (2 ^ a .n) ≡ false = was-false (c .before .is-within-size .ensures) (c .if1 .taken) in
+    let h1 : ltb (a .reach) (2 ^ a .n) ≡ false = was-false (c .before .is-up-to .ensures) (c .if1 .taken) in
     rw h1
 
 -- the reach names only processes 1 to n
 within-size : (c : tie.Else1) → let a = c .before .before .args in ltb (a .reach) (2 ^ a .n) ≡ true
-within-size c = was-true (c .before .is-within-size .ensures) (c .if1 .left)
+within-size c = was-true (c .before .is-up-to .ensures) (c .if1 .left)
 
 is-named-requires : tie.Need-is-named-requires
 is-named-requires c κs = search needs
@@ -55,4 +55,4 @@ returns-4 c =
 
 pub is-reach-right-spec : {M : Type 1} → statement M
 is-reach-right-spec =
-    tie.close (tie.spec is-within-size-requires returns is-named-requires returns-2 returns-3 returns-4)
+    tie.close (tie.spec is-up-to-requires returns is-named-requires returns-2 returns-3 returns-4)

@@ -8,8 +8,10 @@ use lib.ListN.{getD}
 use lib.Pow.{pow-mono}
 use Rattle.laws.specs.Below.{sum}
 use Rattle.laws.proofs.Below.{sum-start, sum-step, sum-end}
+use Rattle.sets.specs.Largest.{largest}
+use Rattle.sets.proofs.Bits.{bit-moved}
 use Rattle.fields.specs.Decimal.{letter}
-use Rattle.fields.proofs.Bits.{letter-at, bit-moved, reach-below}
+use Rattle.fields.proofs.Bits.{letter-at, reach-below}
 use Rattle.fields.proofs.letters.reach_value.Statement.{statement}
 use Rattle.fields.proofs.letters.reach_value.Tie as tie
 
@@ -52,10 +54,10 @@ shl-reach c = omega arith
 -- the bit at place j is added
 added : (c : tie.After-byte-at Inv-loop μ-loop)
     → let l = c .before .before .loop in
-    l .reach + ((c .byte-at .result - letter 0) * 2 ^ l .j) % 2 ^ 32 ≡ sum (l .j + 1) (bitAt (c .before .before .before .before .args .text .now))
+    l .reach + ((c .byte-at .result - letter 0) * 2 ^ l .j) % 2 ^ largest ≡ sum (l .j + 1) (bitAt (c .before .before .before .before .args .text .now))
 added c =
     let l = c .before .before .loop in
-    let moved = bit-moved (c .byte-at .result - letter 0) (l .j) (omega (arith, letter-here c)) (omega arith) in
+    let moved = bit-moved largest (c .byte-at .result - letter 0) (l .j) (omega (arith, letter-here c)) (omega arith) in
     sum-step (l .j) _ _ _ (l .inv .1) (moved ∙ ap (λ (b : ℕ). (b - letter 0) * 2 ^ l .j) (c .byte-at .ensures))
 
 add-reach : tie.Need-add-reach Inv-loop μ-loop
@@ -63,7 +65,7 @@ add-reach c =
     let a = c .before .before .before .before .args in
     let l = c .before .before .loop in
     let below = reach-below (a .text .now) (a .n) (c .before .before .before .before .pre .1) (l .j + 1) (omega arith) in
-    let room : 2 ^ (l .j + 1) ≤ 2 ^ 32 = pow-mono {i = l .j + 1} {j = 32} (omega arith) in
+    let room : 2 ^ (l .j + 1) ≤ 2 ^ largest = pow-mono {i = l .j + 1} {j = largest} (omega arith) in
     omega (arith, added c)
 
 add-j : tie.Need-add-j Inv-loop μ-loop

@@ -9,7 +9,8 @@ use borrow.Author.Tests.{le-leb, lt-leb}
 use lib.Dec.{leb}
 use Rattle.laws.specs.Answer.{ask}
 use Rattle.laws.proofs.Test.{was-false, was-true, within-low}
-use Rattle.member.specs.Opening.{largest, openQuestion}
+use Rattle.sets.specs.Largest.{largest}
+use Rattle.member.specs.Opening.{openQuestion}
 use Rattle.member.proofs.limits.open_question.Statement.{statement}
 use Rattle.member.proofs.limits.open_question.Tie as tie
 

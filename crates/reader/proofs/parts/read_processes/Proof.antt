@@ -6,6 +6,7 @@ use Prim.Native.Nat.{ℕ, _+_, _-_, _≤_, _<_}
 use native.Mathlib.Omega.{arith}
 use borrow.Author.Count.{below-none, below-more}
 use borrow.Author.Needs.{needs}
+use Rattle.sets.specs.Largest.{largest}
 use Rattle.laws.specs.Answer.{accepted, refused, nextEach}
 use Rattle.laws.proofs.Answer.{next-each-passes, next-each-refused}
 use Rattle.laws.proofs.Filled.{each-none, each-more, each-all}
@@ -15,7 +16,7 @@ use Rattle.schedule.specs.Questions.{entryQuestion}
 use Rattle.text.specs.Forms.{Entry, entryAt}
 use Rattle.text.specs.Reading.{sizesIn, entryIn, entryQuestions}
 use Rattle.forms.specs.Answers.{valueOf, processIs}
-use Rattle.forms.proofs.LineForms.{entry-in-32}
+use Rattle.forms.proofs.LineForms.{entry-up-to}
 use Rattle.reader.specs.Parts.{Table}
 use Rattle.reader.proofs.Entries.{line-wrong, entry-is, entry-refused, entry-passed}
 use Rattle.reader.proofs.parts.read_processes.Statement.{statement}
@@ -73,7 +74,7 @@ entry-read d =
     let i = d .before .before .before .loop .i in
     let pre = d .before .before .before .before .before .before .before .before .before .pre in
     d .read-process .ensures
-    ∙ ap valueOf (entry-in-32 (a .n) i (d .before .from .result .now) (pre .0 .0))
+    ∙ ap valueOf (entry-up-to largest (a .n) i (d .before .from .result .now) (pre .0 .0))
     ∙ ap (λ (n : ℕ). valueOf (entryAt n i (d .before .from .result .now))) (sym (pre .0 .1))
     ∙ ap (λ (part : List ℕ). valueOf (entryAt (sizesIn (a .text .now) .n) i part)) (part-after (a .text .now) (i + 3) (d .before .from .ensures) (d .before .before .before .loop .inv .1))
 
@@ -166,7 +167,7 @@ loop-again c =
     let k = d .before .before .before in
     let text = d .before .before .before .before .before .before .before .before .before .args .text .now in
     let i = k .loop .i in
-    let small : d .before .before .before .before .before .before .before .before .before .args .n ≤ 32 = d .before .before .before .before .before .before .before .before .before .pre .0 .0 in
+    let small : d .before .before .before .before .before .before .before .before .before .args .n ≤ largest = d .before .before .before .before .before .before .before .before .before .pre .0 .0 in
     let same = entry-is text i (entry v) (entry-values v) in
     let next : c .next-line .result ≡ startOf text (afterLines (i + 3 + 1) text) = lines-more text (i + 3) (k .loop .at) (c .next-line .result) (k .loop .inv .1) (c .next-line .ensures) in (
       omega arith,

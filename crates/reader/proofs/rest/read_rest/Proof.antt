@@ -17,8 +17,8 @@ zero-bytes-requires c κs = search needs
 zero-bytes-requires-2 : tie.Need-zero-bytes-requires-2
 zero-bytes-requires-2 c κs = search needs
 
-zero-words-requires : tie.Need-zero-words-requires
-zero-words-requires c κs = search needs
+zero-sets-requires : tie.Need-zero-sets-requires
+zero-sets-requires c κs = search needs
 
 slice-aggregate-read-processes : tie.Need-slice-aggregate-read-processes
 slice-aggregate-read-processes c = search needs
@@ -133,7 +133,7 @@ read-rest-spec =
     (tie.spec
     zero-bytes-requires
     zero-bytes-requires-2
-    zero-words-requires
+    zero-sets-requires
     slice-aggregate-read-processes
     slice-aggregate-read-processes-2
     slice-aggregate-read-processes-3

@@ -5,6 +5,7 @@ use Prim.Native.Nat.{ℕ, _-_, _≤_}
 use native.Mathlib.Omega.{arith}
 use borrow.Author.Needs.{needs}
 use lib.ListN.{length, getD, set, length-set}
+use Rattle.sets.specs.Largest.{largest}
 use Rattle.reader.proofs.Copies.{copied, copied-more}
 use Rattle.reader.proofs.tables.fill.Statement.{statement}
 use Rattle.reader.proofs.tables.fill.Tie as tie
@@ -12,9 +13,9 @@ use Rattle.reader.proofs.tables.fill.Tie as tie
 abbrev Inv-loop : tie.InvT-loop
 Inv-loop n votes₀ crashes₀ reaches₀ voted crashed reached i₀ votes crashes reaches i =
     (i ≤ n)
-    × (length votes ≡ 32)
-    × (length crashes ≡ 32)
-    × (length reaches ≡ 32)
+    × (length votes ≡ largest)
+    × (length crashes ≡ largest)
+    × (length reaches ≡ largest)
     × (votes ≡ copied voted votes₀ i)
     × (crashes ≡ copied crashed crashes₀ i)
     × (reaches ≡ copied reached reaches₀ i)
@@ -59,9 +60,9 @@ loop-again : tie.Need-loop-again Inv-loop μ-loop
 loop-again c =
     let a = c .before .before .args in
     let loop = c .before .loop in
-    let v : length (a .t2) ≡ 32 = search needs in
-    let k : length (a .t3) ≡ 32 = search needs in
-    let m : length (a .t4) ≡ 32 = search needs in (
+    let v : length (a .t2) ≡ largest = search needs in
+    let k : length (a .t3) ≡ largest = search needs in
+    let m : length (a .t4) ≡ largest = search needs in (
       omega arith,
       length-set (loop .votes) (loop .i) _ ∙ loop .inv .1,
       length-set (loop .crashes) (loop .i) _ ∙ loop .inv .2,

@@ -9,7 +9,7 @@ use lib.ListN.{length, getD}
 use denote.Ref.{now}
 use Rattle.laws.specs.Answer.{accepted}
 use Rattle.laws.proofs.Answer.{not-accepted}
-use Rattle.member.specs.Opening.{largest}
+use Rattle.sets.specs.Largest.{largest}
 use Rattle.schedule.specs.Schedule.{Schedule, scheduleOf}
 use Rattle.run.specs.Protocol.{fcwfa}
 use Rattle.run.specs.Report.{report}
@@ -76,7 +76,7 @@ put-report-requires c κs =
     let d = c .before .before .before .before .before .before .before .before .before .before in
     let pre = d .before .before .before .before .before .before .before .before .before .pre in
     let s = given d in
-    let n : s .n ≤ 32 = n-small s largest _ pre in
+    let n : s .n ≤ largest = n-small s largest _ pre in
     let long : length (d .simulate .last .1 .1 .1 .1 .1 .0) ≡ s .n = ap length (decided d) ∙ decisions-long s largest _ pre in
     let rounds : length (d .simulate .last .1 .1 .1 .1 .1 .1 .0) ≡ s .n = ap length (timed d) ∙ rounds-long s largest _ pre in
     ((omega arith, omega arith), subst AllDecisions (sym (decided d)) (all-decisions s largest _ pre))
@@ -107,7 +107,7 @@ returns-2 c =
     let s = given d in
     let pre = d .before .before .before .before .before .before .before .before .before .pre in
     let k = c .before .before .before .before .before .before .run .given .0 .0 in
-    let n : s .n ≤ 32 = n-small s largest _ pre in
+    let n : s .n ≤ largest = n-small s largest _ pre in
     let long : length (d .simulate .last .1 .1 .1 .1 .1 .0) ≡ s .n = ap length (decided d) ∙ decisions-long s largest _ pre in
     let t : s .t < 2 ^ 64 = search needs in
     let counts = of-64-bits (c .before .before .before .before .before) in

@@ -4,6 +4,7 @@ use Prim.Native.Nat.{_≤_}
 use borrow.Author.Needs.{needs}
 use lib.ListN.{length}
 use Rattle.lines.specs.Lines.{lineOf}
+use Rattle.text.specs.Reading.{longest}
 use Rattle.text.specs.Output.{refusalText}
 use Rattle.report.proofs.Buffer.{writes-same, written-output}
 use Rattle.report.proofs.Lengths.{refusal-short}
@@ -25,7 +26,7 @@ put-refusal-requires c κs = search needs
 returns : tie.Need-returns
 returns c =
     let a = c .before .before .before .before .before .before .args in
-    let short : length (lineOf (a .k) (a .text .now)) ≤ 2048 = c .before .before .before .before .before .before .pre in
+    let short : length (lineOf (a .k) (a .text .now)) ≤ longest = c .before .before .before .before .before .before .pre in
     let line = c .before .before .line .ensures in
     let w = writes-same (ap (refusalText (a .number) (a .k)) line) (c .before .put-refusal .ensures) in
     written-output _ _ _ _ (c .before .before .before .before .blank-output .ensures) w (refusal-short (a .number) (a .k) _ (search needs) (search needs) short)

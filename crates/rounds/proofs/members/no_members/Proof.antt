@@ -2,6 +2,7 @@
 use mathlib.Core.Path.{ap}
 use borrow.Author.Needs.{needs}
 use lib.ListN.{replicate}
+use Rattle.sets.specs.Largest.{largest}
 use Rattle.rounds.proofs.members.no_members.Statement.{statement}
 use Rattle.rounds.proofs.members.no_members.Tie as tie
 
@@ -9,7 +10,7 @@ no-member-requires : tie.Need-no-member-requires
 no-member-requires c κs = search needs
 
 returns : tie.Need-returns
-returns c = ap (replicate 32) (c .no-member .ensures)
+returns c = ap (replicate largest) (c .no-member .ensures)
 
 pub no-members-spec : {M : Type 1} → statement M
 no-members-spec = tie.close (tie.spec no-member-requires returns)

@@ -4,6 +4,7 @@ use Prim.Native.Nat.{_+_, _-_, _≤_}
 use native.Mathlib.Omega.{arith}
 use borrow.Author.Needs.{needs}
 use lib.ListN.{length, getD, length-replicate}
+use Rattle.sets.specs.Largest.{largest}
 use Rattle.laws.specs.Filled.{Filled, BlankFrom}
 use Rattle.laws.proofs.Filled.{each-none, each-more, each-all, blank-all, blank-stays}
 use Rattle.member.specs.Opening.{opening}
@@ -12,7 +13,7 @@ use Rattle.rounds.proofs.members.start_all.Statement.{statement}
 use Rattle.rounds.proofs.members.start_all.Tie as tie
 
 abbrev Inv-loop : tie.InvT-loop
-Inv-loop n t votes members₀ i₀ members i = (i ≤ n) × Filled nobody 32 i members (λ k. opening n t (k + 1) (getD votes k 0)) × BlankFrom nobody n members
+Inv-loop n t votes members₀ i₀ members i = (i ≤ n) × Filled nobody largest i members (λ k. opening n t (k + 1) (getD votes k 0)) × BlankFrom nobody n members
 
 abbrev μ-loop : tie.MeasureT-loop
 μ-loop n t votes members₀ i₀ members i = n - i
@@ -23,7 +24,7 @@ no-members-requires c κs = search needs
 loop-holds : tie.Need-loop-holds Inv-loop μ-loop
 loop-holds c =
     let none = c .no-members .ensures in
-    (omega arith, each-none (ap length none ∙ length-replicate 32 nobody), subst⁻¹ (BlankFrom nobody (c .before .before .args .n)) none (blank-all 32 _))
+    (omega arith, each-none (ap length none ∙ length-replicate largest nobody), subst⁻¹ (BlankFrom nobody (c .before .before .args .n)) none (blank-all largest _))
 
 add-started : tie.Need-add-started Inv-loop μ-loop
 add-started c = omega arith

@@ -2,6 +2,7 @@
 use Prim.Native.Nat.{_-_, _≤_}
 use native.Mathlib.Omega.{arith}
 use borrow.Author.Needs.{needs}
+use Rattle.sets.specs.Largest.{largest}
 use Rattle.laws.specs.Filled.{Filled}
 use Rattle.laws.proofs.Filled.{each-none, each-more, each-all}
 use Rattle.member.specs.Saying.{says}
@@ -11,7 +12,7 @@ use Rattle.rounds.proofs.play.codes_said.Statement.{statement}
 use Rattle.rounds.proofs.play.codes_said.Tie as tie
 
 abbrev Inv-loop : tie.InvT-loop
-Inv-loop n members codes₀ i₀ codes i = (i ≤ n) × Filled 0 32 i codes (λ k. says (stateAt fcwfa members k))
+Inv-loop n members codes₀ i₀ codes i = (i ≤ n) × Filled 0 largest i codes (λ k. says (stateAt fcwfa members k))
 
 abbrev μ-loop : tie.MeasureT-loop
 μ-loop n members codes₀ i₀ codes i = n - i

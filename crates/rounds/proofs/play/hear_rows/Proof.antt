@@ -5,6 +5,7 @@ use native.Mathlib.Omega.{arith}
 use mathlib.Core.List.{[]}
 use lib.ListN.{getD, take}
 use lib.Seq.{length-take-le}
+use Rattle.sets.specs.Largest.{largest}
 use Rattle.laws.specs.Filled.{Filled, BlankFrom}
 use Rattle.laws.proofs.Filled.{each-none, each-more, each-all, blank-stays}
 use Rattle.run.specs.Protocol.{fcwfa}
@@ -16,7 +17,7 @@ use Rattle.rounds.proofs.play.hear_rows.Tie as tie
 abbrev Inv-loop : tie.InvT-loop
 Inv-loop n round grid crashes members codes next₀ i₀ next i =
     (i ≤ n)
-    × Filled nobody 32 i next (λ k. stateAfter fcwfa round (getD crashes k 0) (stateAt fcwfa members k) (take n (getD grid k [])))
+    × Filled nobody largest i next (λ k. stateAfter fcwfa round (getD crashes k 0) (stateAt fcwfa members k) (take n (getD grid k [])))
     × BlankFrom nobody n next
 
 abbrev μ-loop : tie.MeasureT-loop

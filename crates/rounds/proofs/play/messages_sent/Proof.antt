@@ -1,9 +1,10 @@
--- `messages_sent` meets its contract: each turn adds what one sender sends, at most 32. Assumes nothing.
+-- `messages_sent` meets its contract: each turn adds what one sender sends, at most as many as a set has bits. Assumes nothing.
 use Prim.Native.Nat.{_-_, _*_, _≤_}
 use mathlib.Core.Path.{_≡_}
 use native.Mathlib.Omega.{arith}
 use borrow.Author.Needs.{needs}
 use lib.ListN.{getD}
+use Rattle.sets.specs.Largest.{largest}
 use Rattle.laws.specs.Below.{sum}
 use Rattle.laws.proofs.Below.{sum-start, sum-step, sum-end}
 use Rattle.run.specs.Report.{sentBy}
@@ -12,7 +13,7 @@ use Rattle.rounds.proofs.play.messages_sent.Statement.{statement}
 use Rattle.rounds.proofs.play.messages_sent.Tie as tie
 
 abbrev Inv-loop : tie.InvT-loop
-Inv-loop n round crashes reaches codes messages₀ j₀ messages j = (j ≤ n) × (messages ≡ sum j (λ k. sentBy n round (getD crashes k 0) (getD reaches k 0) (getD codes k 0))) × (messages ≤ 32 * j)
+Inv-loop n round crashes reaches codes messages₀ j₀ messages j = (j ≤ n) × (messages ≡ sum j (λ k. sentBy n round (getD crashes k 0) (getD reaches k 0) (getD codes k 0))) × (messages ≤ largest * j)
 
 abbrev μ-loop : tie.MeasureT-loop
 μ-loop n round crashes reaches codes messages₀ j₀ messages j = n - j
@@ -36,7 +37,7 @@ sent-by-requires : tie.Need-sent-by-requires Inv-loop μ-loop
 sent-by-requires c κs = search needs
 
 add-messages : tie.Need-add-messages Inv-loop μ-loop
-add-messages c = let few = sent-few 32 _ _ _ _ _ _ (c .sent-by .ensures) (omega arith) (c .before .shared-slice-known4 .given (c .before .before .before .before .loop .j) .fits) in omega arith
+add-messages c = let few = sent-few largest _ _ _ _ _ _ (c .sent-by .ensures) (omega arith) (c .before .shared-slice-known4 .given (c .before .before .before .before .loop .j) .fits) in omega arith
 
 add-j : tie.Need-add-j Inv-loop μ-loop
 add-j c = omega arith
@@ -46,7 +47,7 @@ loop-less c = omega arith
 
 loop-again : tie.Need-loop-again Inv-loop μ-loop
 loop-again c =
-    let few = sent-few 32 _ _ _ _ _ _ (c .sent-by .ensures) (omega arith) (c .before .shared-slice-known4 .given (c .before .before .before .before .loop .j) .fits) in
+    let few = sent-few largest _ _ _ _ _ _ (c .sent-by .ensures) (omega arith) (c .before .shared-slice-known4 .given (c .before .before .before .before .loop .j) .fits) in
     (omega arith, sum-step _ _ _ _ (c .before .before .before .before .loop .inv .1) (c .sent-by .ensures), omega arith)
 
 returns : tie.Need-returns Inv-loop μ-loop

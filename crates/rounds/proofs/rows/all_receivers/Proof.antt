@@ -3,6 +3,7 @@ use Prim.Native.Nat.{_-_, _≤_}
 use native.Mathlib.Omega.{arith}
 use borrow.Author.Needs.{needs}
 use lib.ListN.{getD}
+use Rattle.sets.specs.Largest.{largest}
 use Rattle.laws.specs.Filled.{Filled}
 use Rattle.laws.proofs.Filled.{each-none, each-more, each-all}
 use Rattle.delivery.specs.Receivers.{receiversOf}
@@ -10,16 +11,16 @@ use Rattle.rounds.proofs.rows.all_receivers.Statement.{statement}
 use Rattle.rounds.proofs.rows.all_receivers.Tie as tie
 
 abbrev Inv-loop : tie.InvT-loop
-Inv-loop n round crashes reaches to₀ j₀ to j = (j ≤ n) × Filled 0 32 j to (λ k. receiversOf 32 round (getD crashes k 0) (getD reaches k 0))
+Inv-loop n round crashes reaches to₀ j₀ to j = (j ≤ n) × Filled 0 largest j to (λ k. receiversOf largest round (getD crashes k 0) (getD reaches k 0))
 
 abbrev μ-loop : tie.MeasureT-loop
 μ-loop n round crashes reaches to₀ j₀ to j = n - j
 
-zero-words-requires : tie.Need-zero-words-requires Inv-loop μ-loop
-zero-words-requires c κs = search needs
+zero-sets-requires : tie.Need-zero-sets-requires Inv-loop μ-loop
+zero-sets-requires c κs = search needs
 
 loop-holds : tie.Need-loop-holds Inv-loop μ-loop
-loop-holds c = (omega arith, each-none (c .zero-words .ensures .1))
+loop-holds c = (omega arith, each-none (c .zero-sets .ensures .1))
 
 shared-slice-read-receivers : tie.Need-shared-slice-read-receivers Inv-loop μ-loop
 shared-slice-read-receivers c = omega arith
@@ -57,7 +58,7 @@ all-receivers-spec =
     (tie.spec
     Inv-loop
     μ-loop
-    zero-words-requires
+    zero-sets-requires
     loop-holds
     shared-slice-read-receivers
     mul-receivers

@@ -5,6 +5,7 @@ use Prim.Native.Nat.{ℕ, _-_, _≤_}
 use native.Mathlib.Omega.{arith}
 use borrow.Author.Needs.{needs}
 use lib.ListN.{getD}
+use Rattle.sets.specs.Largest.{largest}
 use Rattle.laws.specs.Filled.{Each, Filled}
 use Rattle.laws.proofs.Filled.{each-none, each-more, each-all}
 use Rattle.delivery.specs.Receivers.{heardOf}
@@ -13,7 +14,7 @@ use Rattle.rounds.proofs.rows.fill_grid.Tie as tie
 
 abbrev Inv-loop : tie.InvT-loop
 Inv-loop n codes to grid₀ i₀ grid i =
-    (i ≤ n) × Each [] 32 i grid (λ (k : ℕ) (row : List ℕ). Filled 0 32 n row (λ j. heardOf k (getD codes j 0) (getD to j 0)))
+    (i ≤ n) × Each [] largest i grid (λ (k : ℕ) (row : List ℕ). Filled 0 largest n row (λ j. heardOf k (getD codes j 0) (getD to j 0)))
 
 abbrev μ-loop : tie.MeasureT-loop
 μ-loop n codes to grid₀ i₀ grid i = n - i

@@ -3,6 +3,7 @@ use Prim.Native.Nat.{_-_, _≤_}
 use native.Mathlib.Omega.{arith}
 use borrow.Author.Needs.{needs}
 use lib.ListN.{getD}
+use Rattle.sets.specs.Largest.{largest}
 use Rattle.laws.specs.Filled.{Filled}
 use Rattle.laws.proofs.Filled.{each-none, each-more, each-all}
 use Rattle.delivery.specs.Receivers.{heardOf}
@@ -10,7 +11,7 @@ use Rattle.rounds.proofs.rows.row_of.Statement.{statement}
 use Rattle.rounds.proofs.rows.row_of.Tie as tie
 
 abbrev Inv-loop : tie.InvT-loop
-Inv-loop n hearer codes to row₀ j₀ row j = (j ≤ n) × Filled 0 32 j row (λ k. heardOf hearer (getD codes k 0) (getD to k 0))
+Inv-loop n hearer codes to row₀ j₀ row j = (j ≤ n) × Filled 0 largest j row (λ k. heardOf hearer (getD codes k 0) (getD to k 0))
 
 abbrev μ-loop : tie.MeasureT-loop
 μ-loop n hearer codes to row₀ j₀ row j = n - j

@@ -1,0 +1,140 @@
+-- The bits of a set. A number is below 2 ^ n exactly where nothing is left once its n low bits are shifted out, so such a number names nobody past n; each
+-- bit below stands for one process, so the ones are those that are named; and bits add up to a number that has them for its bits. Assumes nothing.
+use mathlib.Core.Path.{_≡_, refl, sym, ap, ap₂, _∙_}
+use mathlib.Core.Logic.{inl, inr}
+use mathlib.Core.Bool.{true, false}
+use Prim.Native.Nat.{ℕ, zero, suc, _+_, _-_, _*_, _/_, _%_, _^_, _≤_, _<_}
+use native.Mathlib.Nat.{add-comm, div-one, div-eq-of-lt, div-lt-iff-lt-mul, le-div-iff-mul-le, lt-of-lt-of-le, mod-eq-of-lt, mod-lt, mod-one, mul-le-mul-right, pow-suc}
+use native.Mathlib.Numerals.{add-one}
+use native.Mathlib.Omega.{arith}
+use lib.Arith.{lt-one}
+use lib.Count.{ones, ones-step}
+use lib.Dec.{ltb, eqb}
+use lib.Pow as Pow
+use borrow.Author.Count.{below-none}
+use borrow.Author.Tests.{eqb-true, eqb-false, eq-eqb, lt-ltb, le-ltb}
+use Rattle.laws.specs.Below.{bit, count, sum}
+use Rattle.laws.proofs.Test.{true-or-false}
+use Rattle.laws.proofs.Counting.{below-or-top, count-first, count-same}
+use Rattle.sets.specs.Sets.{names, upTo, everyone, setOf}
+
+-- Below 2 ^ n, and past it.
+
+pub below-power : (set n : ℕ) → set / 2 ^ n ≤ 0 → upTo n set ≡ true
+below-power set n h = lt-ltb set (2 ^ n) (omega (arith, div-lt-iff-lt-mul {x = set} {y = 1} (Pow.pow-pos n) .0 (omega arith)))
+
+pub past-power : (set n : ℕ) → 0 < set / 2 ^ n → upTo n set ≡ false
+past-power set n h = le-ltb set (2 ^ n) (omega (arith, le-div-iff-mul-le {x = 1} {y = set} (Pow.pow-pos n) .0 (omega arith)))
+
+-- a set of fewer bits than n
+pub narrow : (width n set : ℕ) → set < 2 ^ width → width ≤ n → upTo n set ≡ true
+narrow width n set short past = lt-ltb set (2 ^ n) (lt-of-lt-of-le short (Pow.pow-mono {i = width} {j = n} past))
+
+pub names-nobody : (n set i : ℕ) → set < 2 ^ n → n ≤ i → names set i ≡ false
+unfolding names
+names-nobody n set i short past = ap (λ (x : ℕ). eqb (x % 2) 1) (div-eq-of-lt (lt-of-lt-of-le short (Pow.pow-mono past)))
+
+-- The bit at a place.
+
+bit-is : (x : ℕ) → x < 2 → bit (eqb x 1) ≡ x
+bit-is x low =
+    elim (true-or-false (eqb x 1)) [
+      | inl e ↦ rw e (let z = eqb-true x 1 e in omega arith)
+      | inr e ↦ rw e (let z = eqb-false x 1 e in omega arith)
+    ]
+
+-- as a number
+pub named-bit : (set i : ℕ) → bit (names set i) ≡ set / 2 ^ i % 2
+unfolding names
+named-bit set i = bit-is (set / 2 ^ i % 2) (mod-lt (set / 2 ^ i) (omega arith))
+
+-- the lowest bit stands for the process at place 0
+lowest : (set : ℕ) → bit (names set 0) ≡ set % 2
+lowest set = named-bit set 0 ∙ ap (λ (x : ℕ). x % 2) (div-one set)
+
+-- and the others stand one place down in the rest
+others : (set i : ℕ) → names set (suc i) ≡ names (set / 2) i
+unfolding names
+others set i = ap (λ (x : ℕ). eqb (x % 2) 1) (ap (λ (k : ℕ). set / 2 ^ k) (omega arith) ∙ sym (Pow.shr-shr set 1 i))
+
+no-ones : ones 0 ≡ 0
+unfolding ones
+no-ones = refl
+
+pub ones-named : (n set : ℕ) → set < 2 ^ n → ones set ≡ count n (names set)
+unfolding count
+ones-named zero set h = ap ones (lt-one h) ∙ no-ones
+ones-named (suc n) set h =
+    let half = ones-named n (set / 2) (Pow.shr-lt n 1 (rw add-one h)) in
+    let rest = count-same n (λ i. names set (suc i)) (names (set / 2)) (λ i _. others set i) in
+    let low = lowest set in
+    let first = count-first n (names set) in
+    let digit = ones-step set in
+    omega arith
+
+-- the set of all has the bit of each process
+pub all-named : (n i : ℕ) → i < n → names (everyone n) i ≡ true
+unfolding names
+all-named n i l =
+    let j = n - i - 1 in
+    let e : n ≡ suc j + i = omega arith in
+    let rest : (2 ^ n - 1) / 2 ^ i ≡ 2 ^ suc j - 1 =
+    ap (λ (w : ℕ). (2 ^ w - 1) / 2 ^ i) e ∙ ap (λ (x : ℕ). x / 2 ^ i) (Pow.ones-split (suc j) i) ∙ Pow.high (2 ^ suc j - 1) i (Pow.ones-lt i) in
+    let f : suc j ≡ j + 1 = omega arith in
+    let odd : (2 ^ suc j - 1) % 2 ≡ 1 = ap (λ (w : ℕ). (2 ^ w - 1) % 2) f ∙ ap (λ (x : ℕ). x % 2) (Pow.ones-split j 1) ∙ Pow.low (2 ^ j - 1) 1 (Pow.ones-lt 1) in
+    eq-eqb _ _ (ap (λ (x : ℕ). x % 2) rest ∙ odd)
+
+-- A set and the row of its bits.
+
+-- a bit moves to one of `width` places without loss
+pub bit-moved : (width d j : ℕ) → d ≤ 1 → j < width → (d * 2 ^ j) % 2 ^ width ≡ d * 2 ^ j
+bit-moved width d j h l = Pow.shl-exact {a = d} 1 j width (omega arith) (omega arith)
+
+bits-sum : (n set : ℕ) → setOf n (λ j. bit (names set j)) ≡ set % 2 ^ n
+unfolding sum
+bits-sum zero set = sym (mod-one set)
+bits-sum (suc n) set =
+    ap₂ (λ (a b : ℕ). a + b * 2 ^ n) (bits-sum n set) (named-bit set n)
+    ∙ add-comm (set % 2 ^ n) (set / 2 ^ n % 2 * 2 ^ n)
+    ∙ sym (Pow.mod-pow-add set 1 n)
+    ∙ ap (λ (k : ℕ). set % 2 ^ k) {x = 1 + n} {y = suc n} (omega arith)
+
+pub of-its-bits : (n set : ℕ) → set < 2 ^ n → setOf n (λ j. bit (names set j)) ≡ set
+of-its-bits n set h = bits-sum n set ∙ mod-eq-of-lt h
+
+-- the bits below place n are those of the n low bits
+low-names : (set n j : ℕ) → j < n → names (set % 2 ^ n) j ≡ names set j
+unfolding names
+low-names set n j l =
+    let m = n - j - 1 in
+    let exponent : n ≡ m + 1 + j = omega arith in
+    ap (λ (x : ℕ). eqb (x % 2) 1)
+    (ap (λ (k : ℕ). set % 2 ^ k / 2 ^ j) exponent ∙ Pow.field set (m + 1) j)
+    ∙ ap (λ (x : ℕ). eqb x 1) (Pow.mod-mod-pow (set / 2 ^ j) m 1)
+
+module _ (digit : ℕ → ℕ) where
+  pub set-below : (n : ℕ) → ((j : ℕ) → j < n → digit j ≤ 1) → setOf n digit < 2 ^ n
+  unfolding sum
+  set-below zero h = omega arith
+  set-below (suc n) h =
+      let below = set-below n (λ j l. h j (omega arith)) in
+      let one : digit n * 2 ^ n ≤ 1 * 2 ^ n = mul-le-mul-right (2 ^ n) (h n (omega arith)) in
+      let twice : 2 ^ suc n ≡ 2 ^ n * 2 = pow-suc 2 n in
+      omega arith
+
+  pub set-bits : (n : ℕ) → ((j : ℕ) → j < n → digit j ≤ 1) → (j : ℕ) → j < n → bit (names (setOf n digit) j) ≡ digit j
+  unfolding sum
+  set-bits zero h = below-none (λ j. bit (names (setOf 0 digit) j) ≡ digit j)
+  set-bits (suc n) h =
+      let few : (j : ℕ) → j < n → digit j ≤ 1 = λ j l. h j (omega arith) in
+      let below = set-below n few in
+      let parts : setOf (suc n) digit ≡ digit n * 2 ^ n + setOf n digit = add-comm (setOf n digit) (digit n * 2 ^ n) in
+      let top : digit n ≤ 1 = h n (omega arith) in
+      below-or-top (λ j. bit (names (setOf (suc n) digit) j) ≡ digit j) n
+      (λ j l.
+      ap bit (sym (low-names (setOf (suc n) digit) n j l))
+      ∙ ap (λ (x : ℕ). bit (names x j)) (ap (λ (x : ℕ). x % 2 ^ n) parts ∙ Pow.low (digit n) n below)
+      ∙ set-bits n few j l)
+      (named-bit (setOf (suc n) digit) n
+      ∙ ap (λ (x : ℕ). x % 2) (ap (λ (x : ℕ). x / 2 ^ n) parts ∙ Pow.high (digit n) n below)
+      ∙ mod-eq-of-lt (omega arith))

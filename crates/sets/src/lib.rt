@@ -1,0 +1,67 @@
+// Sets of processes, and the largest cluster (document 01, "Cabinets, rounds, crashes").
+//
+// A set is a number with a bit for each process: bit i for the process at place i, counted from 0. The
+// width of a set and the largest n stand here and nowhere else; every table of a cluster has that many
+// entries. Each function takes anything and answers what the definitions in specs/ give; none has a
+// `requires`.
+ghost use mathlib.Core.Path.{_≡_};
+ghost use lib.Count.{ones as Count·ones};
+ghost use lib.ListN.{length, replicate};
+ghost use Rattle.sets.specs.Largest.{largest};
+ghost use Rattle.sets.specs.Sets.{names, upTo};
+
+// The largest n that is accepted: the bits of a set, and the entries of a table.
+pub const WIDTH: usize = 32;
+
+// A set of processes.
+pub type Set = u32;
+
+// The set of all processes that a set has bits for.
+pub const EVERYONE: Set = 4294967295;
+
+// Whether the set names the process at place i. Nobody past its bits is named.
+pub fn is_named(set: Set, i: usize) -> bool
+    ensures tested { λ r. ⌜ r ≡ names set i ⌝ }
+{
+    if WIDTH <= i {
+        return false;
+    }
+    (set >> (i as Set)) & 1 == 1
+}
+
+// Whether the set names only processes 1 to n. From its width on every set does.
+pub fn is_up_to(set: Set, n: usize) -> bool
+    ensures tested { λ r. ⌜ r ≡ upTo n set ⌝ }
+{
+    if WIDTH <= n {
+        return true;
+    }
+    if 0 < set >> (n as Set) {
+        return false;
+    }
+    true
+}
+
+// How many processes the set names.
+pub fn ones(set: Set) -> usize
+    ensures counted { λ r. ⌜ r ≡ Count·ones set ⌝ }
+{
+    u32::count_ones(set) as usize
+}
+
+// A table of bytes that are 0.
+pub fn zero_bytes() -> [u8; WIDTH]
+    ensures zeros { λ r. ⌜ r ≡ replicate largest 0 ⌝ }
+    ensures long { λ r. ⌜ length r ≡ largest ⌝ }
+{
+    [0u8; WIDTH]
+}
+
+// A table of empty sets.
+pub fn zero_sets() -> [Set; WIDTH]
+    ensures zeros { λ r. ⌜ r ≡ replicate largest 0 ⌝ }
+    ensures long { λ r. ⌜ length r ≡ largest ⌝ }
+{
+    let empty: Set = 0;
+    [empty; WIDTH]
+}
