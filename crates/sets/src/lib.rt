@@ -46,7 +46,8 @@ pub fn is_up_to(set: Set, n: usize) -> bool
 pub fn ones(set: Set) -> usize
     ensures counted { λ r. ⌜ r ≡ Count·ones set ⌝ }
 {
-    u32::count_ones(set) as usize
+    let named = u32::count_ones(set);
+    named as usize
 }
 
 // A table of bytes that are 0.
