@@ -1,24 +1,17 @@
 -- What the questions of a schedule come to, by the first whose answer is no, and what acceptance then answers. Assumes nothing.
-use mathlib.Core.Path.{_≡_, refl, sym, ap, _∙_}
+use mathlib.Core.Path.{_≡_, sym, ap, _∙_}
 use mathlib.Core.Logic.{_≢_}
 use mathlib.Core.Bool.{Bool, true, false, _&&_}
 use Prim.Native.Nat.{ℕ, _-_}
 use borrow.Author.Tests.{eq-eqb, ne-eqb}
 use lib.Dec.{leb}
-use Rattle.laws.specs.Test.{within}
 use Rattle.laws.specs.Answer.{ask, andThen, askEach, accepted, refused}
 use Rattle.laws.proofs.Answer.{answer-accepted, answer-refused}
 use Rattle.member.specs.Opening.{sizeQuestions}
+use Rattle.member.proofs.Sizes.{sizes-first}
 use Rattle.schedule.specs.Schedule.{Schedule, crashCount}
 use Rattle.schedule.specs.Questions.{tablesLong, processQuestion, question}
 use Rattle.acceptance.specs.Answers.{acceptAnswer}
-
--- Questions 1 and 2, with those after them, are a row of two questions and the others.
-sizes-first : (a b : Bool) (others : ℕ) → ask a 1 (ask b 2 others) ≡ andThen (ask a 1 (ask b 2 0)) others
-unfolding ask andThen
-sizes-first true true others = refl
-sizes-first true false others = refl
-sizes-first false b others = refl
 
 module _ (s : Schedule) (limit : ℕ) (answers : Bool) (q : ℕ) (sizes : q ≡ sizeQuestions limit (s .n) (s .t) 0) where
   -- the questions after 1 and 2
@@ -27,7 +20,7 @@ module _ (s : Schedule) (limit : ℕ) (answers : Bool) (q : ℕ) (sizes : q ≡ 
 
   asked : question s limit answers ≡ andThen q others
   unfolding question
-  asked = sizes-first (within 4 (s .n) limit) (within 3 (s .t) (s .n - 1)) others ∙ ap (λ (x : ℕ). andThen x others) (sym sizes)
+  asked = sizes-first limit (s .n) (s .t) others ∙ ap (λ (x : ℕ). andThen x others) (sym sizes)
 
   pub number-of-sizes : q ≢ 0 → q ≡ question s limit answers
   unfolding andThen

@@ -2,27 +2,26 @@
 // come before any run.
 //
 // `question` gives the number of the first question whose answer is no, or 0, and serves calls that
-// take answer tables too; `accepts` answers for the three input tables alone. `size_question` asks about
-// n and t, `process_question` about the values of one process. `crash_count` reads a table of crash
-// rounds. Each takes anything and answers what the definitions of the crate
-// `schedule` give; none has a `requires`.
+// take answer tables too; `accepts` answers for the three input tables alone. `process_question` asks
+// about the values of one process, `are_of_size` about the lengths of three tables. `crash_count` reads a
+// table of crash rounds. Each takes anything and answers what the definitions of the crate `schedule`
+// give; none has a `requires`.
 mod process;
 mod tables;
 
 pub use process::process_question;
+pub use tables::are_of_size;
 ghost use mathlib.Core.Path.{_≡_};
 ghost use lib.ListN.{length};
 ghost use Rattle.sets.specs.Largest.{largest};
-ghost use Rattle.member.specs.Opening.{sizeQuestions};
 ghost use Rattle.schedule.specs.Schedule.{scheduleOf, crashesIn};
 ghost use Rattle.schedule.specs.Questions.{answersOf, question as Questions·question};
 ghost use Rattle.acceptance.specs.Answers.{acceptanceIs, acceptAnswer};
-use crate::tables::are_tables_long;
+use crate::tables::are_answers_long;
 use crate::tables::processes_question;
 use laws::bit;
-use laws::is_within;
+use member::size_question;
 use sets::Set;
-use sets::WIDTH;
 
 // Every question is answered by yes, or the number of the first question whose answer is no.
 pub enum Acceptance {
@@ -44,20 +43,6 @@ pub fn crash_count(crashes: &[u8]) -> usize
     f
 }
 
-// The number of the first question about n and t whose answer is no, or 0.
-pub fn size_question(n: usize, t: usize) -> u8
-    ensures asked { λ r. ⌜ r ≡ sizeQuestions largest n t 0 ⌝ }
-{
-    if !is_within(4, n, WIDTH) {
-        return 1;
-    }
-    let below = n - 1;
-    if !is_within(3, t, below) {
-        return 2;
-    }
-    0
-}
-
 // The number of the first question of a schedule in tables whose answer is no, or 0. `decisions` and
 // `rounds` are the lengths of the answer tables that the call takes; one that takes none passes n.
 pub fn question(
@@ -75,14 +60,10 @@ pub fn question(
     if sizes != 0 {
         return sizes;
     }
-    if !are_tables_long(
-        n,
-        votes.len(),
-        crashes.len(),
-        reaches.len(),
-        decisions,
-        rounds,
-    ) {
+    if !are_of_size(n, votes.len(), crashes.len(), reaches.len()) {
+        return 3;
+    }
+    if !are_answers_long(n, decisions, rounds) {
         return 3;
     }
     let number = processes_question(n, t, votes, crashes, reaches);

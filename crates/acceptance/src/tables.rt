@@ -1,33 +1,29 @@
 // The tables of a schedule: their lengths, and the questions of the processes in order.
 ghost use mathlib.Core.Path.{_≡_};
-ghost use mathlib.Core.Bool.{_&&_};
 ghost use lib.ListN.{length};
 ghost use Rattle.laws.specs.Answer.{andThen, askEach};
-ghost use Rattle.schedule.specs.Schedule.{Schedule, scheduleOf};
-ghost use Rattle.schedule.specs.Questions.{tablesLong, answersOf, processQuestion};
+ghost use Rattle.schedule.specs.Schedule.{scheduleOf};
+ghost use Rattle.schedule.specs.Questions.{tablesOf, answersOf, processQuestion};
 use crate::process::process_question;
 use sets::Set;
 
-// Whether the three input tables and the two answer tables, whose lengths are given, are n long.
-pub fn are_tables_long(
-    n: usize,
-    votes: usize,
-    crashes: usize,
-    reaches: usize,
-    decisions: usize,
-    rounds: usize,
-) -> bool
-    ensures tested { λ r. ⌜ ((s : Schedule) → s .n ≡ n → length (s .votes) ≡ votes → length (s .crashes) ≡ crashes → length (s .reaches) ≡ reaches → r ≡ (tablesLong s && answersOf n decisions rounds)) ⌝ }
+// Whether three tables, whose lengths are given, have so many entries each.
+pub fn are_of_size(size: usize, votes: usize, crashes: usize, reaches: usize) -> bool
+    ensures tested { λ r. ⌜ r ≡ tablesOf size votes crashes reaches ⌝ }
 {
-    if votes != n {
+    if votes != size {
         return false;
     }
-    if crashes != n {
+    if crashes != size {
         return false;
     }
-    if reaches != n {
-        return false;
-    }
+    reaches == size
+}
+
+// Whether two answer tables, whose lengths are given, are n long.
+pub fn are_answers_long(n: usize, decisions: usize, rounds: usize) -> bool
+    ensures tested { λ r. ⌜ r ≡ answersOf n decisions rounds ⌝ }
+{
     if decisions != n {
         return false;
     }

@@ -13,8 +13,7 @@ use Rattle.lines.specs.Lines.{afterLines}
 use Rattle.fields.specs.Fields.{startsWith}
 use Rattle.member.specs.Opening.{sizeQuestions}
 use Rattle.text.specs.Forms.{sizesHeading, processesHeading, Sizes, sizesAt}
-use Rattle.text.specs.Reading.{isFound, onLine, sizesIn}
-use Rattle.forms.specs.Answers.{headQuestions}
+use Rattle.text.specs.Reading.{isFound, onLine, sizesIn, headQuestions}
 
 module _ (text : List ℕ) (limit most : ℕ) (x : Answer Sizes ℕ) where
   pub head-8 : leb (length text) most ≡ false → refused 8 0 ≡ andNext (headQuestions text limit most) x

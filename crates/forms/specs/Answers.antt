@@ -3,15 +3,10 @@ use Prim.Native.Nat.{ℕ}
 use mathlib.Core.List.{List}
 use mathlib.Core.Option.{Option, some, none}
 use mathlib.Core.Bool.{Bool, true, false, cond}
-use lib.ListN.{length}
 use lib.Dec.{leb}
-use Rattle.laws.specs.Answer.{ask, Answer, accepted, refused, andNext}
-use Rattle.lines.specs.Lines.{afterLines}
+use Rattle.laws.specs.Answer.{Answer, accepted, refused}
 use Rattle.fields.specs.Found.{Found, found, wrong}
-use Rattle.fields.specs.Fields.{startsWith}
-use Rattle.member.specs.Opening.{sizeQuestions}
-use Rattle.text.specs.Forms.{sizesHeading, processesHeading, Sizes, sizesAt, Entry, entryAt}
-use Rattle.text.specs.Reading.{isFound, onLine, sizesIn}
+use Rattle.text.specs.Forms.{Sizes, Entry, entryAt}
 use Rattle.forms.specs.declared.Reading.{Reading}
 use Rattle.forms.specs.declared.Reading.the-variants.{Read, Refused}
 use Rattle.forms.specs.declared.HeadingLine.{HeadingLine}
@@ -25,15 +20,6 @@ use Rattle.forms.specs.declared.ProcessLine.the-variants.{Process, NoPro
 abbrev pub readingIs : Reading → Answer Sizes ℕ
 readingIs (Read n t) = accepted (record { n = n; t = t })
 readingIs (Refused number line) = refused number line
-
--- the questions of lines 1 to 3, and the one before them
-module _ (text : List ℕ) where
-  unfoldable pub headQuestions : ℕ → ℕ → Answer (Unit {0}) ℕ
-  headQuestions limit most =
-      andNext (onLine 0 (ask (leb (length text) most) 8 0))
-      (andNext (onLine 1 (ask (startsWith sizesHeading text) 9 0))
-      (andNext (onLine 2 (ask (isFound (sizesAt (afterLines 1 text))) 9 (sizeQuestions limit (sizesIn text .n) (sizesIn text .t) 0)))
-      (onLine 3 (ask (startsWith processesHeading (afterLines 2 text)) 9 0))))
 
 -- the value that was found, without the text after it
 abbrev pub valueOf : {A : Type 0} → Found A → Option A

@@ -8,8 +8,8 @@ ghost use Rattle.laws.specs.Answer.{accepted, andNext};
 ghost use Rattle.sets.specs.Largest.{largest};
 ghost use Rattle.fields.specs.Fields.{startsWith};
 ghost use Rattle.text.specs.Forms.{sizesAt};
-ghost use Rattle.text.specs.Reading.{longest, sizesIn};
-ghost use Rattle.forms.specs.Answers.{valueOf, readingIs, headingIs, sizesIs, processIs, headQuestions, entryUpTo};
+ghost use Rattle.text.specs.Reading.{longest, sizesIn, headQuestions};
+ghost use Rattle.forms.specs.Answers.{valueOf, readingIs, headingIs, sizesIs, processIs, entryUpTo};
 use fields::Field;
 use fields::Reach;
 use fields::SPACE;
@@ -83,7 +83,7 @@ pub fn read_head(text: &[u8]) -> Reading
     let SizesLine::Sized(n, t) = read_sizes(from(text, line_start(text, 1))) else {
         return Reading::Refused(9, 2);
     };
-    let number = acceptance::size_question(n, t);
+    let number = member::size_question(n, t);
     if number != 0 {
         return Reading::Refused(number, 2);
     }

@@ -2,7 +2,6 @@
 //
 // `case_at` hands out entry k, counted from 0, or tells that there is none. The table is proved as a
 // whole: its results are those that the definitions give.
-ghost use mathlib.Core.Path.{_≡_};
 ghost use Rattle.marked.specs.Marked.{MarkedTable, CaseAt};
 use sets::Set;
 

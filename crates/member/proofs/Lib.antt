@@ -1,3 +1,4 @@
+pub mod Sizes
 pub mod Range
 pub mod Counts
 pub mod Promises

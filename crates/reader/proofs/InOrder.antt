@@ -9,8 +9,7 @@ use lib.Dec.{leb, eqb}
 use Rattle.laws.specs.Answer.{ask, accepted, refused, answer, andNext}
 use Rattle.lines.specs.Lines.{afterLines}
 use Rattle.schedule.specs.Schedule.{crashesIn}
-use Rattle.text.specs.Reading.{onLine}
-use Rattle.reader.specs.Parts.{tailQuestions}
+use Rattle.text.specs.Reading.{onLine, tailQuestions}
 
 module _ (text : List ℕ) (n t : ℕ) (crashes : List ℕ) where
   pub tail-9 : eqb (length (afterLines (n + 3) text)) 0 ≡ false → refused 9 (n + 4) ≡ tailQuestions text n t crashes

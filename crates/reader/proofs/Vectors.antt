@@ -11,10 +11,10 @@ use Rattle.sets.specs.Sets.{names}
 use Rattle.schedule.specs.Schedule.{crashesIn}
 use Rattle.schedule.specs.Questions.{reachRight, entryQuestion, tablesOf}
 use Rattle.text.specs.Forms.{sizesAt, entryAt}
-use Rattle.text.specs.Reading.{onLine, scheduleIn, entryQuestions, textQuestions}
+use Rattle.text.specs.Reading.{onLine, scheduleIn, entryQuestions, headQuestions, tailQuestions, restQuestions, textQuestions}
 use Rattle.reader.specs.Answers.{readQuestions, readAnswer, tableAfter}
 use Rattle.reader.specs.Vectors.{ReaderVectors}
 
 pub reader-vectors : ReaderVectors
-unfolding within sum count tabulate fold ask answer andNext nextEach lineLength afterLine afterLines thenRead isDigit startsWith hasByte ended numberField digitField reachField names crashesIn reachRight entryQuestion tablesOf sizesAt entryAt onLine scheduleIn entryQuestions textQuestions readQuestions readAnswer tableAfter
+unfolding within sum count tabulate fold ask answer andNext nextEach lineLength afterLine afterLines thenRead isDigit startsWith hasByte ended numberField digitField reachField names crashesIn reachRight entryQuestion tablesOf sizesAt entryAt onLine scheduleIn entryQuestions headQuestions tailQuestions restQuestions textQuestions readQuestions readAnswer tableAfter
 reader-vectors = record { answered = refl; left = refl }

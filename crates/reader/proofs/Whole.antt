@@ -6,25 +6,22 @@ use mathlib.Core.List.{List, _++_}
 use mathlib.Core.Bool.{true, false}
 use Prim.Native.Nat.{ℕ, _≤_}
 use native.Mathlib.Omega.{arith}
-use borrow.Author.Tests.{eqb-true}
 use lib.ListN.{length, take, drop}
-use lib.Dec.{eqb}
 use lib.Seq.{length-take-le}
 use Rattle.sets.specs.Largest.{largest}
 use Rattle.laws.specs.Below.{tabulate}
 use Rattle.laws.specs.Answer.{ask, Answer, accepted, refused, answer, andNext, nextEach}
-use Rattle.laws.proofs.Answer.{passed, valueOr, not-accepted, and-next-passes, and-next-refused, and-next-assoc, and-next-accepted, and-next-either}
-use Rattle.laws.proofs.Test.{and-left, and-right, within-high}
+use Rattle.laws.proofs.Answer.{passed, valueOr, not-accepted, and-next-passes, and-next-refused, and-next-accepted, and-next-either}
+use Rattle.laws.proofs.Test.{within-high}
 use Rattle.laws.proofs.Filled.{filled-take}
 use Rattle.schedule.specs.Questions.{tablesOf}
 use Rattle.text.specs.Forms.{Sizes}
-use Rattle.text.specs.Reading.{onLine, sizesIn, entryIn, scheduleIn, entryQuestions, textQuestions}
+use Rattle.text.specs.Reading.{onLine, sizesIn, entryIn, scheduleIn, entryQuestions, textQuestions, tailQuestions, restQuestions, headQuestions}
 use Rattle.text.proofs.Accepted.{line-passed}
-use Rattle.forms.specs.Answers.{headQuestions}
 use Rattle.reader.specs.declared.Lines.{Lines}
 use Rattle.reader.specs.declared.Lines.the-variants.{Passed}
 use Rattle.reader.specs.Answers.{givenOr, filled, readQuestions, readAnswer, tableAfter}
-use Rattle.reader.specs.Parts.{Table, EntriesRead, tailQuestions, restQuestions}
+use Rattle.reader.specs.Parts.{Table, EntriesRead}
 
 -- What is given, and what is kept.
 module _ {A B : Type 0} {q : Answer (Unit {0}) B} (given kept : A) where
@@ -72,14 +69,6 @@ pub entries : (r : Lines) (text : List ℕ) (n : ℕ) (votes crashes reaches : L
     → EntriesRead Passed text n votes crashes reaches
 entries r text n votes crashes reaches e h = subst (λ (x : Lines). EntriesRead x text n votes crashes reaches) e h
 
--- the tables are of the size that is asked for
-pub tables-long : (size : ℕ) (votes crashes reaches : List ℕ) → tablesOf size votes crashes reaches ≡ true
-    → (length votes ≡ size) × (length crashes ≡ size) × (length reaches ≡ size)
-unfolding tablesOf
-tables-long size votes crashes reaches e =
-    let others = and-right (eqb (length votes) size) _ e in
-    (eqb-true _ _ (and-left _ _ e), eqb-true _ _ (and-left _ _ others), eqb-true _ _ (and-right (eqb (length crashes) size) _ others))
-
 -- The head's questions, with the sizes as their answer.
 module _ (text : List ℕ) (limit most : ℕ) where
   abbrev headAnswer : Answer Sizes ℕ
@@ -100,26 +89,18 @@ module _ (text : List ℕ) (limit most : ℕ) where
       let sizes = passed _ _ _ (omega arith) (line-passed _ _ (second .0)) in
       within-high _ _ _ (passed _ _ _ (omega arith) (sizes .1) .0)
 
-  head-and-rest : textQuestions text limit most ≡ andNext (headQuestions text limit most) (restQuestions text)
-  unfolding textQuestions headQuestions restQuestions tailQuestions scheduleIn
-  head-and-rest =
-      sym
-      (and-next-assoc _ _ _
-      ∙ ap (andNext _)
-      (and-next-assoc _ _ _ ∙ ap (andNext _) (and-next-assoc _ _ _)))
-
   module _ (votes crashes reaches : List ℕ) where
     abbrev asked : Answer (Unit {0}) ℕ
     asked = readQuestions limit most text votes crashes reaches
 
-    pub tables-refuse : tablesOf limit votes crashes reaches ≡ false → asked ≡ refused 3 0
+    pub tables-refuse : tablesOf limit (length votes) (length crashes) (length reaches) ≡ false → asked ≡ refused 3 0
     unfolding readQuestions onLine answer ask andNext
     tables-refuse h = rw h
 
-    module _ (h : tablesOf limit votes crashes reaches ≡ true) where
+    module _ (h : tablesOf limit (length votes) (length crashes) (length reaches) ≡ true) where
       parts : asked ≡ andNext (headQuestions text limit most) (restQuestions text)
-      unfolding readQuestions onLine answer ask andNext
-      parts = rw h head-and-rest
+      unfolding readQuestions textQuestions onLine answer ask andNext
+      parts = rw h
 
       pub head-refused : {number k : ℕ} → refused number k ≡ headAnswer → asked ≡ refused number k
       head-refused {number} {k} e = parts ∙ and-next-refused _ _ number k (head-refuses (sym e))

@@ -20,7 +20,7 @@ filled read lent = read ++ drop (length read) lent
 module _ (limit most : ℕ) (text votes crashes reaches : List ℕ) where
   -- "Text: three tables of 32? 3, line 0.", and then the questions of the text
   unfoldable pub readQuestions : Answer (Unit {0}) ℕ
-  readQuestions = andNext (onLine 0 (ask (tablesOf limit votes crashes reaches) 3 0)) (textQuestions text limit most)
+  readQuestions = andNext (onLine 0 (ask (tablesOf limit (length votes) (length crashes) (length reaches)) 3 0)) (textQuestions text limit most)
 
   -- n and t, or the number and the line of the first question whose answer is no
   unfoldable pub readAnswer : Answer Sizes ℕ

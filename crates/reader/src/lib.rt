@@ -12,9 +12,11 @@ ghost use Rattle.sets.specs.Largest.{largest};
 ghost use Rattle.text.specs.Reading.{longest};
 ghost use Rattle.forms.specs.Answers.{readingIs};
 ghost use Rattle.reader.specs.Answers.{readAnswer, votesAfter, crashesAfter, reachesAfter};
+use acceptance::are_of_size;
 use forms::Reading;
 use forms::read_head;
 use sets::Set;
+use sets::WIDTH;
 
 // Some questions were answered by yes, or the number of the first whose answer is no and its line.
 pub enum Lines {
@@ -28,7 +30,7 @@ pub fn read(text: &[u8], votes: &mut [u8], crashes: &mut [u8], reaches: &mut [Se
     ensures crashes_read { λ r. ⌜ now (crashes .exit) ≡ crashesAfter largest longest (now (text .entry)) (now (votes .entry)) (now (crashes .entry)) (now (reaches .entry)) ⌝ }
     ensures reaches_read { λ r. ⌜ now (reaches .exit) ≡ reachesAfter largest longest (now (text .entry)) (now (votes .entry)) (now (crashes .entry)) (now (reaches .entry)) ⌝ }
 {
-    if !tables::are_of_size(votes.len(), crashes.len(), reaches.len()) {
+    if !are_of_size(WIDTH, votes.len(), crashes.len(), reaches.len()) {
         return Reading::Refused(3, 0);
     }
     let head = read_head(text);

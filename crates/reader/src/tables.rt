@@ -1,25 +1,11 @@
 // The three tables that are lent to the reader, with an entry for each process of the largest cluster.
 ghost use mathlib.Core.Path.{_≡_};
-ghost use mathlib.Core.List.{List, _++_};
-ghost use Prim.Native.Nat.{ℕ, _≤_};
+ghost use mathlib.Core.List.{_++_};
+ghost use Prim.Native.Nat.{_≤_};
 ghost use lib.ListN.{length, take, drop};
 ghost use Rattle.sets.specs.Largest.{largest};
-ghost use Rattle.schedule.specs.Questions.{tablesOf};
 use sets::Set;
 use sets::WIDTH;
-
-// Whether the three tables, whose lengths are given, have so many entries each.
-pub fn are_of_size(votes: usize, crashes: usize, reaches: usize) -> bool
-    ensures tested { λ r. ⌜ ((v c m : List ℕ) → length v ≡ votes → length c ≡ crashes → length m ≡ reaches → r ≡ tablesOf largest v c m) ⌝ }
-{
-    if votes != WIDTH {
-        return false;
-    }
-    if crashes != WIDTH {
-        return false;
-    }
-    reaches == WIDTH
-}
 
 // Fills the first n entries of the tables with what was read, and leaves the others.
 pub fn fill(

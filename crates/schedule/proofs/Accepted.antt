@@ -23,6 +23,13 @@ implies : (a b : Bool) → (a ≡ true → b ≡ true) → not a || b ≡ true
 implies true b h = h refl
 implies false b h = refl
 
+-- all three tables have so many entries
+pub all-of-size : (size votes crashes reaches : ℕ) → tablesOf size votes crashes reaches ≡ true → (votes ≡ size) × (crashes ≡ size) × (reaches ≡ size)
+unfolding tablesOf
+all-of-size size votes crashes reaches e =
+    let others = and-right (eqb votes size) _ e in
+    (eqb-true _ _ (and-left _ _ e), eqb-true _ _ (and-left _ _ others), eqb-true _ _ (and-right (eqb crashes size) _ others))
+
 -- both answer tables are n long
 module _ (n decisions rounds : ℕ) where
   pub answers-long : decisions ≡ n → rounds ≡ n → answersOf n decisions rounds ≡ true
@@ -77,10 +84,7 @@ module _ (s : Schedule) where
     process-rules-question r = rw (le-leb (voteOf s i) 1 (r .vote), le-leb (crashOf s i) (s .t + 1) (r .crash), rules-reach-right r)
 
   pub table-lengths : tablesLong s ≡ true → (length (s .votes) ≡ s .n) × (length (s .crashes) ≡ s .n) × (length (s .reaches) ≡ s .n)
-  unfolding tablesOf
-  table-lengths e =
-      let others = and-right (eqb (length (s .votes)) (s .n)) _ e in
-      (eqb-true _ _ (and-left _ _ e), eqb-true _ _ (and-left _ _ others), eqb-true _ _ (and-right (eqb (length (s .crashes)) (s .n)) _ others))
+  table-lengths = all-of-size (s .n) _ _ _
 
   module _ (limit : ℕ) (answers : Bool) where
     pub question-accepted : question s limit answers ≡ 0 → Accepted s limit answers

@@ -1,7 +1,6 @@
 -- The questions before a run of a schedule in tables, and the rules that they ask for.
 use Prim.Native.Nat.{ℕ, _+_, _^_, _≤_, _<_}
 use mathlib.Core.Path.{_≡_}
-use mathlib.Core.List.{List}
 use mathlib.Core.Bool.{Bool, true, false, _&&_, _||_, not}
 use lib.ListN.{length}
 use lib.Dec.{leb, eqb}
@@ -22,18 +21,18 @@ entryQuestion n t i vote crash reach =
     (ask (reachRight n i crash reach) 6
     0))
 
--- each of three tables has so many entries
-unfoldable pub tablesOf : ℕ → List ℕ → List ℕ → List ℕ → Bool
-tablesOf size votes crashes reaches = eqb (length votes) size && (eqb (length crashes) size && eqb (length reaches) size)
+-- "Each of the three input .. tables n long?": three tables of these lengths have so many entries each
+unfoldable pub tablesOf : ℕ → ℕ → ℕ → ℕ → Bool
+tablesOf size votes crashes reaches = eqb votes size && (eqb crashes size && eqb reaches size)
 
 -- "Each of the .. two answer tables n long?": two tables of these lengths
 unfoldable pub answersOf : ℕ → ℕ → ℕ → Bool
 answersOf n decisions rounds = eqb decisions n && eqb rounds n
 
 module _ (s : Schedule) where
-  -- "Each of the three input .. tables n long?"
+  -- of a schedule
   abbrev pub tablesLong : Bool
-  tablesLong = tablesOf (s .n) (s .votes) (s .crashes) (s .reaches)
+  tablesLong = tablesOf (s .n) (length (s .votes)) (length (s .crashes)) (length (s .reaches))
 
   -- "For each process in order": questions 4 to 6 of the process at place i
   abbrev pub processQuestion : ℕ → ℕ

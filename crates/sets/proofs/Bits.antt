@@ -9,7 +9,7 @@ use native.Mathlib.Numerals.{add-one}
 use native.Mathlib.Omega.{arith}
 use lib.Arith.{lt-one}
 use lib.Count.{ones, ones-step}
-use lib.Dec.{ltb, eqb}
+use lib.Dec.{eqb}
 use lib.Pow as Pow
 use borrow.Author.Count.{below-none}
 use borrow.Author.Tests.{eqb-true, eqb-false, eq-eqb, lt-ltb, le-ltb}

@@ -21,7 +21,7 @@ use Rattle.schedule.specs.Questions.{question, processQuestion}
 use Rattle.schedule.proofs.Accepted.{accepted-question, process-question-rules}
 use Rattle.run.proofs.Theorem.{accepted-run}
 use Rattle.text.specs.Forms.{sizesHeading, processesHeading, sizesAt, entryAt}
-use Rattle.text.specs.Reading.{isFound, onLine, sizesIn, scheduleIn, entryQuestions, textQuestions, textAnswer}
+use Rattle.text.specs.Reading.{isFound, onLine, sizesIn, scheduleIn, entryQuestions, headQuestions, tailQuestions, restQuestions, textQuestions, textAnswer}
 use Rattle.text.specs.Output.{printed, outputOf}
 use Rattle.text.specs.Facts.{PrintsDemand3}
 
@@ -102,20 +102,20 @@ module _ (text : List ℕ) where
 
   module _ (limit most : ℕ) where
     questions-passed : textQuestions text limit most ≡ accepted tt → Passed limit most
-    unfolding textQuestions
+    unfolding textQuestions headQuestions restQuestions tailQuestions scheduleIn
     questions-passed e =
-        let a = and-next-accepted _ _ tt e in
+        let parts = and-next-accepted _ _ tt e in
+        let a = and-next-accepted _ _ tt (parts .0) in
         let b = and-next-accepted _ _ tt (a .1) in
         let c = and-next-accepted _ _ tt (b .1) in
-        let d = and-next-accepted _ _ tt (c .1) in
-        let f = and-next-accepted _ _ tt (d .1) in
+        let f = and-next-accepted _ _ tt (parts .1) in
         let g = and-next-accepted _ _ tt (f .1) in
         let long = passed _ _ _ (omega arith) (line-passed _ _ (a .0)) in
         let first = passed _ _ _ (omega arith) (line-passed _ _ (b .0)) in
         let sizes = passed _ _ _ (omega arith) (line-passed _ _ (c .0)) in
         let n = passed _ _ _ (omega arith) (sizes .1) in
         let t = passed _ _ _ (omega arith) (n .1) in
-        let second = passed _ _ _ (omega arith) (line-passed _ _ (d .0)) in
+        let second = passed _ _ _ (omega arith) (line-passed _ _ (c .1)) in
         let each = next-each-passed _ _ (f .0) in
         let after = passed _ _ _ (omega arith) (line-passed _ _ (g .0)) in
         let crashes = passed _ _ _ (omega arith) (line-passed _ _ (g .1)) in
@@ -137,17 +137,18 @@ module _ (text : List ℕ) where
         }
 
     passes-questions : Passed limit most → textQuestions text limit most ≡ accepted tt
-    unfolding textQuestions ask
+    unfolding textQuestions headQuestions restQuestions tailQuestions scheduleIn ask
     passes-questions p =
         let n = sizesIn text .n in
         let n-low = p .n-low in
         let t-high = p .t-high in
         let n-right = within-is 4 n limit n-low (p .n-high) in
         let t-right = within-is 3 (sizesIn text .t) (n - 1) (p .t-low) (omega arith) in
-        and-next-passes _ _ (line-passes _ _ (cond-true _ _ _ (le-leb (length text) most (p .short))))
+        and-next-passes _ _
+        (and-next-passes _ _ (line-passes _ _ (cond-true _ _ _ (le-leb (length text) most (p .short))))
         ∙ and-next-passes _ _ (line-passes _ _ (cond-true _ _ _ (p .first-heading)))
         ∙ and-next-passes _ _ (line-passes _ _ (cond-true _ _ _ (p .sizes) ∙ cond-true _ _ _ n-right ∙ cond-true _ _ _ t-right))
-        ∙ and-next-passes _ _ (line-passes _ _ (cond-true _ _ _ (p .second-heading)))
+        ∙ line-passes _ _ (cond-true _ _ _ (p .second-heading)))
         ∙ and-next-passes _ _ (next-each-passes n (entryQuestions text) (λ i l. entry-passes i (p .entry i l) (p .rules i l)))
         ∙ and-next-passes _ _ (line-passes _ _ (cond-true _ _ _ (eq-eqb _ _ (p .nothing-after))))
         ∙ line-passes _ _ (cond-true _ _ _ (le-leb (crashCount (scheduleIn text)) (sizesIn text .t) (p .few)))
@@ -194,25 +195,26 @@ module _ (text : List ℕ) where
 
     -- the refusal is that of one of the questions, and each has a line up to n + 4
     pub line-bound : (number k : ℕ) → textAnswer text limit most ≡ refused number k → k ≤ sizesIn text .n + 4
-    unfolding textAnswer textQuestions
+    unfolding textAnswer textQuestions headQuestions restQuestions tailQuestions
     line-bound =
         next-below
+        (next-below
         (next-below (line-below _ _ (omega arith))
         (next-below (line-below _ _ (omega arith))
         (next-below (line-below _ _ (omega arith))
-        (next-below (line-below _ _ (omega arith))
+        (line-below _ _ (omega arith)))))
         (next-below entries-below
         (next-below (line-below _ _ (omega arith))
-        (line-below _ _ (omega arith))))))))
+        (line-below _ _ (omega arith)))))
         (λ number k e. absurd (not-accepted (sym e)))
 
     -- a text that is too long is refused on line 0
     pub line-short : (number k : ℕ) → textAnswer text limit most ≡ refused number k → length (lineOf k text) ≤ most
-    unfolding textAnswer textQuestions ask lineOf
+    unfolding textAnswer textQuestions headQuestions ask lineOf
     line-short number k e =
         elim (true-or-false (leb (length text) most)) [
           | inl z ↦ let short = leb-true (length text) most z in let part = Endings.line-short k text in omega arith
           | inr z ↦
-              let none : 0 ≡ k = ap lineNamed (sym (and-next-refused _ _ _ _ (and-next-refused _ _ _ _ (line-refuses _ _ _ (cond-false _ _ _ z) (omega arith)))) ∙ e) in
+              let none : 0 ≡ k = ap lineNamed (sym (and-next-refused _ _ _ _ (and-next-refused _ _ _ _ (and-next-refused _ _ _ _ (line-refuses _ _ _ (cond-false _ _ _ z) (omega arith))))) ∙ e) in
               rw (← none) (omega arith)
         ]

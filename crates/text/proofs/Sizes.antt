@@ -2,7 +2,7 @@
 -- text of at most 32 processes has at most 1,374. Assumes nothing.
 use mathlib.Core.List.{List, [], _∷_}
 use mathlib.Core.Bool.{true}
-use Prim.Native.Nat.{ℕ, zero, suc, _+_, _*_, _≤_, _<_}
+use Prim.Native.Nat.{ℕ, zero, suc, _+_, _*_, _^_, _≤_, _<_}
 use native.Mathlib.Omega.{arith}
 use lib.ListN.{length, length-append}
 use Rattle.laws.specs.Below.{fold}
@@ -17,19 +17,20 @@ use Rattle.text.specs.Written.{field, eachLine, sizesLine, processLine, 
 use Rattle.text.specs.Reading.{longest}
 use Rattle.text.proofs.Letters.{letters-long}
 
-field-short : (x end : ℕ) → x ≤ 99 → length (field x end) ≤ 3
+-- a field of a number of at most k + 1 digits
+pub field-short : (k x end : ℕ) → x < 10 ^ suc k → length (field x end) ≤ k + 2
 unfolding field
-field-short x end h =
-    let digits = decimal-short 1 x (omega arith) in
+field-short k x end h =
+    let digits = decimal-short k x h in
     let all = length-append (decimal x) (end ∷ []) in
     omega arith
 
 process-short : (n i vote crash reach : ℕ) → i < 99 → vote ≤ 99 → crash ≤ 99 → length (processLine n i vote crash reach) ≤ n + 10
 unfolding processLine
 process-short n i vote crash reach hi hv hc =
-    let id = field-short (i + 1) space (omega arith) in
-    let v = field-short vote space hv in
-    let c = field-short crash space hc in
+    let id = field-short 1 (i + 1) space (omega arith) in
+    let v = field-short 1 vote space (omega arith) in
+    let c = field-short 1 crash space (omega arith) in
     let r = letters-long n reach in
     simp length-append (omega arith)
 
@@ -57,7 +58,7 @@ module _ (s : Schedule) (ok : Accepted s largest true) where
   text-short =
       let n-high = ok .n-high in
       let t-high = ok .rules .t-high in
-      let n = field-short (s .n) space (omega arith) in
-      let t = field-short (s .t) lf (omega arith) in
+      let n = field-short 1 (s .n) space (omega arith) in
+      let t = field-short 1 (s .t) lf (omega arith) in
       let lines = each-short (s .n) (largest + 10) (λ i. processLine (s .n) i (voteOf s i) (crashOf s i) (reachOf s i)) line-short in
       simp length-append (omega arith)

@@ -1,5 +1,5 @@
 -- The texts of specs/Vectors.antt: what the definitions print for them is computed, for all at once. Assumes nothing.
-use mathlib.Core.Path.{_≡_, refl}
+use mathlib.Core.Path.{refl}
 use lib.Count.{ones, onesIn}
 use Rattle.laws.specs.Test.{within}
 use Rattle.laws.specs.Below.{sum, count, tabulate, fold}
@@ -18,16 +18,16 @@ use Rattle.run.specs.Run.{completesRound, isHeard, delivered, codeHeard, rowOf,
 use Rattle.run.specs.Report.{sentBy, messages, decisionOf, before, firstWith, firstOf, lastOf}
 use Rattle.text.specs.Forms.{sizesAt, entryAt}
 use Rattle.text.specs.Written.{field, eachLine}
-use Rattle.text.specs.Reading.{onLine, scheduleIn, entryQuestions, textQuestions, textAnswer}
+use Rattle.text.specs.Reading.{onLine, scheduleIn, entryQuestions, headQuestions, tailQuestions, restQuestions, textQuestions, textAnswer}
 use Rattle.text.specs.Output.{decisionLetter, countsLine, decisionLine, decisionLines, reportText, refusalText, outputOf}
 use Rattle.text.specs.Vectors.{TextVectors, LengthVectors}
 
 pub text-vectors : TextVectors
-unfolding ones onesIn within sum count tabulate fold ask answer andNext nextEach lineLength afterLine afterLines lineOf thenRead isDigit decimalIn decimal startsWith hasByte ended numberField digitField reachField stopped says codes told zerosOnly quiet enough ruleMet firstEstimate lowered toldValue byRule becomes names crashesIn reachRight entryQuestion completesRound isHeard delivered codeHeard rowOf stateAfter nextState played opened statesAfter final sentBy messages decisionOf before firstWith firstOf lastOf sizesAt entryAt field eachLine onLine scheduleIn entryQuestions textQuestions textAnswer decisionLetter countsLine decisionLine decisionLines reportText refusalText outputOf
+unfolding ones onesIn within sum count tabulate fold ask answer andNext nextEach lineLength afterLine afterLines lineOf thenRead isDigit decimalIn decimal startsWith hasByte ended numberField digitField reachField stopped says codes told zerosOnly quiet enough ruleMet firstEstimate lowered toldValue byRule becomes names crashesIn reachRight entryQuestion completesRound isHeard delivered codeHeard rowOf stateAfter nextState played opened statesAfter final sentBy messages decisionOf before firstWith firstOf lastOf sizesAt entryAt field eachLine onLine scheduleIn entryQuestions headQuestions tailQuestions restQuestions textQuestions textAnswer decisionLetter countsLine decisionLine decisionLines reportText refusalText outputOf
 text-vectors = refl
 
 pub length-vectors : LengthVectors
-unfolding ask answer andNext lineLength afterLines lineOf decimalIn decimal startsWith field onLine textQuestions textAnswer refusalText outputOf
+unfolding ask answer andNext lineLength afterLines lineOf decimalIn decimal startsWith field onLine headQuestions textQuestions textAnswer refusalText outputOf
 length-vectors = record {
   too-long = λ text e. rw e;
   long = λ rest e. rw e;

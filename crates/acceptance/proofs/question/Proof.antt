@@ -1,6 +1,6 @@
 -- `question` meets its contract: each question that is passed goes on to the next. Assumes nothing.
-use mathlib.Core.Path.{_≡_, refl, sym, ap, _∙_}
-use mathlib.Core.Bool.{true, false, _&&_}
+use mathlib.Core.Path.{_≡_, sym, ap, _∙_}
+use mathlib.Core.Bool.{Bool, true, _&&_}
 use Prim.Native.Nat.{ℕ}
 use native.Mathlib.Omega.{arith}
 use borrow.Author.Needs.{needs}
@@ -8,7 +8,7 @@ use borrow.Author.Tests.{le-leb, lt-leb}
 use lib.Dec.{leb}
 use lib.ListN.{length}
 use Rattle.laws.specs.Answer.{ask}
-use Rattle.laws.proofs.Test.{and-left, was-false, was-true}
+use Rattle.laws.proofs.Test.{and-goes-on, and-no-left, was-false, was-true}
 use Rattle.sets.specs.Largest.{largest}
 use Rattle.schedule.specs.Schedule.{Schedule, scheduleOf, crashesIn}
 use Rattle.schedule.specs.Questions.{tablesLong, answersOf, question}
@@ -23,60 +23,80 @@ size-question-requires c κs = search needs
 returns : tie.Need-returns
 returns c = number-of-sizes _ _ _ _ (c .before .size-question .ensures) (c .if1 .taken)
 
-are-tables-long-requires : tie.Need-are-tables-long-requires
-are-tables-long-requires c κs = search needs
-
--- the schedule that is asked about, past questions 1 and 2
+-- the schedule that is asked about, past questions 1 and 2, and whether the answer tables are n long
 abbrev given : tie.Else1 → Schedule
 given c =
     let a = c .before .before .before .before .before .args in
     scheduleOf (a .n) (a .t) (a .votes .now) (a .crashes .now) (a .reaches .now)
 
+abbrev answers : tie.Else1 → Bool
+answers c = let a = c .before .before .before .before .before .args in answersOf (a .n) (a .decisions) (a .rounds)
+
+are-of-size-requires : tie.Need-are-of-size-requires
+are-of-size-requires c κs = search needs
+
 returns-2 : tie.Need-returns-2
 returns-2 c =
     let c1 = c .before .before in
-    let a = c1 .before .before .before .before .before .args in
-    let h3 : tablesLong (given c1) && answersOf (a .n) (a .decisions) (a .rounds) ≡ false = was-false (c .before .are-tables-long .ensures (given c1) refl refl refl refl) (c .if2 .taken) in
+    let h3 = and-no-left (tablesLong (given c1)) (answers c1) (was-false (c .before .are-of-size .ensures) (c .if2 .taken)) in
     number-3 (given c1) _ _ _ (c1 .before .size-question .ensures) (c1 .if1 .left) h3
 
--- question 3 is passed
-all-long : (c : tie.Else2) → let a = c .before .before .before .before .before .before .before .args in tablesLong (given (c .before .before)) && answersOf (a .n) (a .decisions) (a .rounds) ≡ true
-all-long c = was-true (c .before .are-tables-long .ensures (given (c .before .before)) refl refl refl refl) (c .if2 .left)
+-- the three input tables are n long
+tables : (c : tie.Else2) → tablesLong (given (c .before .before)) ≡ true
+tables c = was-true (c .before .are-of-size .ensures) (c .if2 .left)
 
 lengths : (c : tie.Else2) → let s = given (c .before .before) in (length (s .votes) ≡ s .n) × (length (s .crashes) ≡ s .n) × (length (s .reaches) ≡ s .n)
-lengths c = table-lengths (given (c .before .before)) (and-left _ _ (all-long c))
+lengths c = table-lengths (given (c .before .before)) (tables c)
 
-processes-question-requires : tie.Need-processes-question-requires
-processes-question-requires c κs = lengths c
+-- so number 3 goes by the answer tables
+by-answers : (c : tie.Else2) → let c1 = c .before .before in answers c1 ≡ (tablesLong (given c1) && answers c1)
+by-answers c = and-goes-on (tablesLong (given (c .before .before))) (answers (c .before .before)) (tables c)
+
+are-answers-long-requires : tie.Need-are-answers-long-requires
+are-answers-long-requires c κs = search needs
 
 returns-3 : tie.Need-returns-3
 returns-3 c =
     let c2 = c .before .before in
     let c1 = c2 .before .before in
-    number-of-process (given c1) _ _ _ (c1 .before .size-question .ensures) (c1 .if1 .left) (all-long c2) _ (c .before .processes-question .ensures) (c .if3 .taken)
+    let h3 = sym (by-answers c2) ∙ was-false (c .before .are-answers-long .ensures) (c .if3 .taken) in
+    number-3 (given c1) _ _ _ (c1 .before .size-question .ensures) (c1 .if1 .left) h3
+
+-- question 3 is passed
+all-long : (c : tie.Else3) → let c1 = c .before .before .before .before in (tablesLong (given c1) && answers c1) ≡ true
+all-long c = sym (by-answers (c .before .before)) ∙ was-true (c .before .are-answers-long .ensures) (c .if3 .left)
+
+processes-question-requires : tie.Need-processes-question-requires
+processes-question-requires c κs = lengths (c .before .before)
+
+returns-4 : tie.Need-returns-4
+returns-4 c =
+    let c3 = c .before .before in
+    let c1 = c3 .before .before .before .before in
+    number-of-process (given c1) _ _ _ (c1 .before .size-question .ensures) (c1 .if1 .left) (all-long c3) _ (c .before .processes-question .ensures) (c .if4 .taken)
 
 crash-count-requires : tie.Need-crash-count-requires
 crash-count-requires c κs = search needs
 
 -- past the first six questions; the table of crash rounds is n long, so its count is f
-up-to-7 : (c : tie.After-crash-count) → let c1 = c .before .before .before .before .before in let a = c1 .before .before .before .before .before .args in question (given c1) largest (answersOf (a .n) (a .decisions) (a .rounds)) ≡ ask (leb (c .crash-count .result) (given c1 .t)) 7 0
+up-to-7 : (c : tie.After-crash-count) → let c1 = c .before .before .before .before .before .before .before in question (given c1) largest (answers c1) ≡ ask (leb (c .crash-count .result) (given c1 .t)) 7 0
 up-to-7 c =
-    let c2 = c .before .before .before in
-    let c1 = c2 .before .before in
-    let f = c .crash-count .ensures ∙ ap (λ (n : ℕ). crashesIn n (given c1 .crashes)) (lengths c2 .1) in
-    past-processes (given c1) _ _ _ (c1 .before .size-question .ensures) (c1 .if1 .left) (all-long c2) _ (c .before .before .processes-question .ensures) (c .before .if3 .left)
+    let c3 = c .before .before .before in
+    let c1 = c3 .before .before .before .before in
+    let f = c .crash-count .ensures ∙ ap (λ (n : ℕ). crashesIn n (given c1 .crashes)) (lengths (c3 .before .before) .1) in
+    past-processes (given c1) _ _ _ (c1 .before .size-question .ensures) (c1 .if1 .left) (all-long c3) _ (c .before .before .processes-question .ensures) (c .before .if4 .left)
     ∙ ap (λ (f : ℕ). ask (leb f (given c1 .t)) 7 0) (sym f)
-
-returns-4 : tie.Need-returns-4
-unfolding ask
-returns-4 c =
-    let t = c .before .before .before .before .before .before .before .before .before .before .before .args .t in
-    rw (up-to-7 (c .before), lt-leb (c .before .crash-count .result) t (omega arith))
 
 returns-5 : tie.Need-returns-5
 unfolding ask
 returns-5 c =
-    let t = c .before .before .before .before .before .before .before .before .before .before .before .args .t in
+    let t = c .before .before .before .before .before .before .before .before .before .before .before .before .before .args .t in
+    rw (up-to-7 (c .before), lt-leb (c .before .crash-count .result) t (omega arith))
+
+returns-6 : tie.Need-returns-6
+unfolding ask
+returns-6 c =
+    let t = c .before .before .before .before .before .before .before .before .before .before .before .before .before .args .t in
     rw (up-to-7 (c .before), le-leb (c .before .crash-count .result) t (omega arith))
 
 pub question-spec : {M : Type 1} → statement M
@@ -85,10 +105,12 @@ question-spec =
     (tie.spec
     size-question-requires
     returns
-    are-tables-long-requires
+    are-of-size-requires
     returns-2
-    processes-question-requires
+    are-answers-long-requires
     returns-3
-    crash-count-requires
+    processes-question-requires
     returns-4
-    returns-5)
+    crash-count-requires
+    returns-5
+    returns-6)

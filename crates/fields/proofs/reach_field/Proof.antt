@@ -2,11 +2,10 @@
 -- Assumes nothing.
 use mathlib.Core.Path.{_≡_, sym, ap, _∙_}
 use mathlib.Core.Bool.{true, false}
-use Prim.Native.Nat.{ℕ, _+_, _-_, _*_, _^_}
+use Prim.Native.Nat.{ℕ, _+_, _-_}
 use native.Mathlib.Omega.{arith}
 use borrow.Author.Needs.{needs}
 use lib.ListN.{getD, drop}
-use Rattle.laws.specs.Below.{sum}
 use Rattle.laws.proofs.Test.{was-true, was-false}
 use Rattle.fields.specs.Found.{found}
 use Rattle.fields.specs.Decimal.{letter}

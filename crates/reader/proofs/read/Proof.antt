@@ -1,18 +1,20 @@
 -- `read` meets its contract: what the tables, the head and the rest of the text answer, in order, is the answer. Assumes nothing.
-use mathlib.Core.Path.{_≡_, refl, sym, ap, _∙_}
+use mathlib.Core.Path.{_≡_, sym, ap, _∙_}
 use mathlib.Core.Bool.{true}
 use Prim.Native.Nat.{_≤_}
 use borrow.Author.Needs.{needs}
+use lib.ListN.{length}
 use Rattle.laws.specs.Answer.{accepted}
 use Rattle.laws.proofs.Test.{was-false, was-true}
 use Rattle.sets.specs.Largest.{largest}
 use Rattle.schedule.specs.Questions.{tablesOf}
+use Rattle.schedule.proofs.Accepted.{all-of-size}
 use Rattle.text.specs.Forms.{Sizes}
-use Rattle.text.specs.Reading.{longest, sizesIn}
+use Rattle.text.specs.Reading.{longest, sizesIn, restQuestions}
 use Rattle.forms.specs.Answers.{readingIs}
 use Rattle.reader.specs.Answers.{readQuestions}
-use Rattle.reader.specs.Parts.{linesIs, restQuestions}
-use Rattle.reader.proofs.Whole.{tables-long, tables-refuse, head-refused, head-passed, read-refused, read-accepted, table-kept, table-read}
+use Rattle.reader.specs.Parts.{linesIs}
+use Rattle.reader.proofs.Whole.{tables-refuse, head-refused, head-passed, read-refused, read-accepted, table-kept, table-read}
 use Rattle.reader.proofs.read.Statement.{statement}
 use Rattle.reader.proofs.read.Tie as tie
 
@@ -22,12 +24,12 @@ are-of-size-requires c κs = search needs
 returns : tie.Need-returns
 returns c =
     let a = c .before .before .before .before .before .before .args in
-    let e = tables-refuse (a .text .now) largest longest (a .votes .now) (a .crashes .now) (a .reaches .now) (was-false (c .before .are-of-size .ensures _ _ _ refl refl refl) (c .if1 .taken)) in
+    let e = tables-refuse (a .text .now) largest longest (a .votes .now) (a .crashes .now) (a .reaches .now) (was-false (c .before .are-of-size .ensures) (c .if1 .taken)) in
     (read-refused _ _ _ _ _ _ e, (table-kept _ _ _ _ _ _ e _ _, (table-kept _ _ _ _ _ _ e _ _, table-kept _ _ _ _ _ _ e _ _)))
 
 -- the tables are of their size
-sized : (c : tie.Else1) → let a = c .before .before .before .before .before .before .args in tablesOf largest (a .votes .now) (a .crashes .now) (a .reaches .now) ≡ true
-sized c = was-true (c .before .are-of-size .ensures _ _ _ refl refl refl) (c .if1 .left)
+sized : (c : tie.Else1) → let a = c .before .before .before .before .before .before .args in tablesOf largest (length (a .votes .now)) (length (a .crashes .now)) (length (a .reaches .now)) ≡ true
+sized c = was-true (c .before .are-of-size .ensures) (c .if1 .left)
 
 read-head-requires : tie.Need-read-head-requires
 read-head-requires c κs = search needs
@@ -61,7 +63,7 @@ read-rest-requires c κs =
     let d = c .before .before .before .before in
     let p = passed-head d in
     let same = p .1 in
-    ((p .2, ap (λ (s : Sizes). s .n) same, ap (λ (s : Sizes). s .t) same), tables-long largest _ _ _ (sized (d .before .before .before)))
+    ((p .2, ap (λ (s : Sizes). s .n) same, ap (λ (s : Sizes). s .t) same), all-of-size largest _ _ _ (sized (d .before .before .before)))
 
 enum-known-rest : tie.Need-enum-known-rest
 enum-known-rest c = search needs

@@ -6,7 +6,8 @@ use borrow.Author.Needs.{needs}
 use lib.ListN.{length, take}
 use lib.Seq.{length-take-le}
 use Rattle.reader.specs.declared.Lines.the-variants.{Passed}
-use Rattle.reader.specs.Parts.{linesIs, EntriesRead, restQuestions}
+use Rattle.text.specs.Reading.{restQuestions}
+use Rattle.reader.specs.Parts.{linesIs, EntriesRead}
 use Rattle.reader.proofs.Whole.{gives, keeps, filled-with, lines-refuse, lines-pass, read-votes, read-crashes, read-reaches, entries}
 use Rattle.reader.proofs.rest.read_rest.Statement.{statement}
 use Rattle.reader.proofs.rest.read_rest.Tie as tie

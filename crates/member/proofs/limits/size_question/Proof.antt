@@ -8,8 +8,8 @@ use Rattle.laws.specs.Test.{within}
 use Rattle.laws.specs.Answer.{ask}
 use Rattle.laws.proofs.Test.{was-false, was-true, within-low}
 use Rattle.sets.specs.Largest.{largest}
-use Rattle.acceptance.proofs.size_question.Statement.{statement}
-use Rattle.acceptance.proofs.size_question.Tie as tie
+use Rattle.member.proofs.limits.size_question.Statement.{statement}
+use Rattle.member.proofs.limits.size_question.Tie as tie
 
 is-within-requires : tie.Need-is-within-requires
 is-within-requires c κs = search needs
