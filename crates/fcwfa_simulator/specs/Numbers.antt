@@ -3,10 +3,14 @@ use Prim.Native.Nat.{ℕ}
 use mathlib.Core.Path.{_≡_}
 use mathlib.Core.List.{List, [], _∷_}
 use lib.ListN.{length, getD}
+use Rattle.laws.specs.Answer.{placeAfter}
+use Rattle.sets.specs.Largest.{largest}
 use Rattle.schedule.specs.Schedule.{Schedule}
+use Rattle.run.specs.Protocol.{fcwfa}
+use Rattle.run.specs.Report.{report}
 use Rattle.run.specs.Given.{GivenDemand3}
 use Rattle.simulator.specs.declared.Counts.{Counts}
-use Rattle.simulator.specs.Answers.{givenBy}
+use Rattle.simulator.specs.Answers.{countsOf, simulateQuestion, decisionsAfter, roundsAfter, givenBy}
 
 -- the counts as four numbers, "f; last ..; first ..; messages", in the order of the report's heading: f, first, last, messages
 abbrev pub countsNumbers : Counts → List ℕ
@@ -27,3 +31,12 @@ pub record CountsNumbers : Type 0 where
 -- Demand 3 of the numbers as given: wherever the call answers 0, with the counts and the two tables after the call.
 pub record NumbersKeepDemand3 (s : Schedule) (number : ℕ) (counts decisions rounds : List ℕ) : Type 0 where
   pub kept : number ≡ 0 → GivenDemand3 s (givenBy (countsIn counts) decisions rounds)
+
+-- What the call promises of a schedule, the two answer tables and the place for the counts that it is lent: of the number that it answers, and of what
+-- stands in them after it.
+pub record SimulatesNumbers (s : Schedule) (decisions rounds counts : List ℕ) (number : ℕ) (decisionsNow roundsNow countsNow : List ℕ) : Type 0 where
+  pub number-is : number ≡ simulateQuestion largest s decisions rounds
+  pub decisions-given : decisionsNow ≡ decisionsAfter largest s decisions rounds
+  pub rounds-given : roundsNow ≡ roundsAfter largest s decisions rounds
+  pub counts-given : countsNow ≡ placeAfter (simulateQuestion largest s decisions rounds) (countsNumbers (countsOf (report fcwfa s))) counts
+  pub demand-3 : NumbersKeepDemand3 s number countsNow decisionsNow roundsNow

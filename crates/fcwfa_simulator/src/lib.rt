@@ -5,13 +5,8 @@
 // length is 0, each is good for the number of entries that is said or given with it, and what is written
 // overlaps with nothing else that the call is lent.
 ghost use mathlib.Core.Path.{_≡_};
-ghost use Rattle.laws.specs.Answer.{placeAfter};
-ghost use Rattle.sets.specs.Largest.{largest};
 ghost use Rattle.schedule.specs.Schedule.{scheduleOf};
-ghost use Rattle.run.specs.Protocol.{fcwfa};
-ghost use Rattle.run.specs.Report.{report};
-ghost use Rattle.simulator.specs.Answers.{countsOf, simulateQuestion, decisionsAfter, roundsAfter};
-ghost use Rattle.fcwfa_simulator.specs.Numbers.{countsNumbers, NumbersKeepDemand3};
+ghost use Rattle.fcwfa_simulator.specs.Numbers.{countsNumbers, SimulatesNumbers};
 use sets::Set;
 use simulator::Counts;
 use simulator::Simulated;
@@ -36,11 +31,7 @@ pub extern "C" fn fcwfa_simulate(
     rounds: &mut [u8],
     counts: &mut [usize; 4],
 ) -> u8
-    ensures number { λ r. ⌜ r ≡ simulateQuestion largest (scheduleOf n t (now (votes .entry)) (now (crashes .entry)) (now (reaches .entry))) (now (decisions .entry)) (now (rounds .entry)) ⌝ }
-    ensures decisions_given { λ r. ⌜ now (decisions .exit) ≡ decisionsAfter largest (scheduleOf n t (now (votes .entry)) (now (crashes .entry)) (now (reaches .entry))) (now (decisions .entry)) (now (rounds .entry)) ⌝ }
-    ensures rounds_given { λ r. ⌜ now (rounds .exit) ≡ roundsAfter largest (scheduleOf n t (now (votes .entry)) (now (crashes .entry)) (now (reaches .entry))) (now (decisions .entry)) (now (rounds .entry)) ⌝ }
-    ensures counts_given { λ r. ⌜ now (counts .exit) ≡ placeAfter (simulateQuestion largest (scheduleOf n t (now (votes .entry)) (now (crashes .entry)) (now (reaches .entry))) (now (decisions .entry)) (now (rounds .entry))) (countsNumbers (countsOf (report fcwfa (scheduleOf n t (now (votes .entry)) (now (crashes .entry)) (now (reaches .entry)))))) (now (counts .entry)) ⌝ }
-    ensures demand_3 { λ r. ⌜ NumbersKeepDemand3 (scheduleOf n t (now (votes .entry)) (now (crashes .entry)) (now (reaches .entry))) r (now (counts .exit)) (now (decisions .exit)) (now (rounds .exit)) ⌝ }
+    ensures simulated { λ r. ⌜ SimulatesNumbers (scheduleOf n t (now (votes .entry)) (now (crashes .entry)) (now (reaches .entry))) (now (decisions .entry)) (now (rounds .entry)) (now (counts .entry)) r (now (decisions .exit)) (now (rounds .exit)) (now (counts .exit)) ⌝ }
 {
     let answer = simulator::simulate(n, t, votes, crashes, reaches, decisions, rounds);
     match answer {

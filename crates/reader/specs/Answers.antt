@@ -1,11 +1,15 @@
 -- What `read` answers, and what the three lent tables hold after the call.
 use Prim.Native.Nat.{ℕ}
+use mathlib.Core.Path.{_≡_}
 use mathlib.Core.List.{List, _++_}
 use lib.ListN.{length, drop}
 use Rattle.laws.specs.Answer.{ask, Answer, accepted, refused, andNext}
+use Rattle.sets.specs.Largest.{largest}
 use Rattle.schedule.specs.Questions.{tablesOf}
 use Rattle.text.specs.Forms.{Sizes}
-use Rattle.text.specs.Reading.{onLine, sizesIn, scheduleIn, textQuestions}
+use Rattle.text.specs.Reading.{longest, onLine, sizesIn, scheduleIn, textQuestions}
+use Rattle.forms.specs.declared.Reading.{Reading}
+use Rattle.forms.specs.Answers.{readingIs}
 
 -- what is given if every question is answered by yes, or else what is kept
 abbrev pub givenOr : {A B : Type 0} → Answer (Unit {0}) B → A → A → A
@@ -38,3 +42,10 @@ module _ (limit most : ℕ) (text votes crashes reaches : List ℕ) where
 
   abbrev pub reachesAfter : List ℕ
   reachesAfter = tableAfter (scheduleIn text .reaches) reaches
+
+-- What the call promises: of its answer, and of the three tables after it.
+pub record Reads (text votes crashes reaches : List ℕ) (r : Reading) (votesNow crashesNow reachesNow : List ℕ) : Type 0 where
+  pub answered : readingIs r ≡ readAnswer largest longest text votes crashes reaches
+  pub votes-read : votesNow ≡ votesAfter largest longest text votes crashes reaches
+  pub crashes-read : crashesNow ≡ crashesAfter largest longest text votes crashes reaches
+  pub reaches-read : reachesNow ≡ reachesAfter largest longest text votes crashes reaches

@@ -7,11 +7,7 @@ mod parts;
 mod rest;
 mod tables;
 
-ghost use mathlib.Core.Path.{_≡_};
-ghost use Rattle.sets.specs.Largest.{largest};
-ghost use Rattle.text.specs.Reading.{longest};
-ghost use Rattle.forms.specs.Answers.{readingIs};
-ghost use Rattle.reader.specs.Answers.{readAnswer, votesAfter, crashesAfter, reachesAfter};
+ghost use Rattle.reader.specs.Answers.{Reads};
 use acceptance::are_of_size;
 use forms::Reading;
 use forms::read_head;
@@ -25,10 +21,7 @@ pub enum Lines {
 }
 
 pub fn read(text: &[u8], votes: &mut [u8], crashes: &mut [u8], reaches: &mut [Set]) -> Reading
-    ensures answered { λ r. ⌜ readingIs r ≡ readAnswer largest longest (now (text .entry)) (now (votes .entry)) (now (crashes .entry)) (now (reaches .entry)) ⌝ }
-    ensures votes_read { λ r. ⌜ now (votes .exit) ≡ votesAfter largest longest (now (text .entry)) (now (votes .entry)) (now (crashes .entry)) (now (reaches .entry)) ⌝ }
-    ensures crashes_read { λ r. ⌜ now (crashes .exit) ≡ crashesAfter largest longest (now (text .entry)) (now (votes .entry)) (now (crashes .entry)) (now (reaches .entry)) ⌝ }
-    ensures reaches_read { λ r. ⌜ now (reaches .exit) ≡ reachesAfter largest longest (now (text .entry)) (now (votes .entry)) (now (crashes .entry)) (now (reaches .entry)) ⌝ }
+    ensures read { λ r. ⌜ Reads (now (text .entry)) (now (votes .entry)) (now (crashes .entry)) (now (reaches .entry)) r (now (votes .exit)) (now (crashes .exit)) (now (reaches .exit)) ⌝ }
 {
     if !are_of_size(WIDTH, votes.len(), crashes.len(), reaches.len()) {
         return Reading::Refused(3, 0);

@@ -4,6 +4,7 @@ use mathlib.Core.Path.{_≡_}
 use mathlib.Core.List.{List}
 use lib.ListN.{length}
 use Rattle.laws.specs.Answer.{Answer, accepted, refused, answer, placeAfter}
+use Rattle.sets.specs.Largest.{largest}
 use Rattle.schedule.specs.Schedule.{Schedule}
 use Rattle.schedule.specs.Questions.{answersOf, question}
 use Rattle.run.specs.Protocol.{fcwfa}
@@ -52,3 +53,10 @@ givenBy counts decisions rounds = record {
 -- Demand 3 of the answers as given: wherever the answer is one of counts, with those counts and the two tables after the call.
 pub record AnswersKeepDemand3 (s : Schedule) (r : Simulated) (decisions rounds : List ℕ) : Type 0 where
   pub kept : (counts : Counts) → simulatedIs r ≡ accepted counts → GivenDemand3 s (givenBy counts decisions rounds)
+
+-- What the call promises: of its answer, and of the two tables after it.
+pub record Simulates (s : Schedule) (decisions rounds : List ℕ) (r : Simulated) (decisionsNow roundsNow : List ℕ) : Type 0 where
+  pub answered : simulatedIs r ≡ simulateAnswer largest s decisions rounds
+  pub decisions-given : decisionsNow ≡ decisionsAfter largest s decisions rounds
+  pub rounds-given : roundsNow ≡ roundsAfter largest s decisions rounds
+  pub demand-3 : AnswersKeepDemand3 s r decisionsNow roundsNow

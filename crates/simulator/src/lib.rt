@@ -4,10 +4,8 @@
 // answer tables and answers the counts. It takes anything, and has no `requires`.
 mod answers;
 
-ghost use mathlib.Core.Path.{_≡_};
-ghost use Rattle.sets.specs.Largest.{largest};
 ghost use Rattle.schedule.specs.Schedule.{scheduleOf};
-ghost use Rattle.simulator.specs.Answers.{simulatedIs, simulateAnswer, decisionsAfter, roundsAfter, AnswersKeepDemand3};
+ghost use Rattle.simulator.specs.Answers.{Simulates};
 use sets::Set;
 
 // The counts of the report.
@@ -35,10 +33,7 @@ pub fn simulate(
     decisions: &mut [u8],
     rounds: &mut [u8],
 ) -> Simulated
-    ensures answered { λ r. ⌜ simulatedIs r ≡ simulateAnswer largest (scheduleOf n t (now (votes .entry)) (now (crashes .entry)) (now (reaches .entry))) (now (decisions .entry)) (now (rounds .entry)) ⌝ }
-    ensures decisions_given { λ r. ⌜ now (decisions .exit) ≡ decisionsAfter largest (scheduleOf n t (now (votes .entry)) (now (crashes .entry)) (now (reaches .entry))) (now (decisions .entry)) (now (rounds .entry)) ⌝ }
-    ensures rounds_given { λ r. ⌜ now (rounds .exit) ≡ roundsAfter largest (scheduleOf n t (now (votes .entry)) (now (crashes .entry)) (now (reaches .entry))) (now (decisions .entry)) (now (rounds .entry)) ⌝ }
-    ensures demand_3 { λ r. ⌜ AnswersKeepDemand3 (scheduleOf n t (now (votes .entry)) (now (crashes .entry)) (now (reaches .entry))) r (now (decisions .exit)) (now (rounds .exit)) ⌝ }
+    ensures simulated { λ r. ⌜ Simulates (scheduleOf n t (now (votes .entry)) (now (crashes .entry)) (now (reaches .entry))) (now (decisions .entry)) (now (rounds .entry)) r (now (decisions .exit)) (now (rounds .exit)) ⌝ }
 {
     let ran = rounds::run(n, t, votes, crashes, reaches, decisions.len(), rounds.len());
     let question = ran.question;

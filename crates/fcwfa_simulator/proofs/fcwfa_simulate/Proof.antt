@@ -31,8 +31,14 @@ unfolding simulateAnswer
 returns c =
     let run = c .before .before .before .before .before .before .before .before .simulate .ensures in
     let completed = ap simulatedIs (c .before .before .answer .given .1) in
-    let given = answer-given _ _ tt countsNumbers _ (sym completed ∙ run .0) in
-    (given .0, (run .1 .0, (run .1 .1 .0, (c .counts-numbers .ensures ∙ given .1, completed-keeps _ (run .1 .1 .1) completed (c .counts-numbers .ensures)))))
+    let given = answer-given _ _ tt countsNumbers _ (sym completed ∙ run .answered) in
+    record {
+      number-is = given .0;
+      decisions-given = run .decisions-given;
+      rounds-given = run .rounds-given;
+      counts-given = c .counts-numbers .ensures ∙ given .1;
+      demand-3 = completed-keeps _ (run .demand-3) completed (c .counts-numbers .ensures);
+    }
 
 same-length-3 : tie.Need-same-length-3
 same-length-3 c = search needs
@@ -44,10 +50,16 @@ returns-2 : tie.Need-returns-2
 unfolding simulateAnswer
 returns-2 c =
     let run = c .before .before .before .before .before .before .before .simulate .ensures in
-    let refusal = sym (ap simulatedIs (c .before .answer2 .given .1)) ∙ run .0 in
+    let refusal = sym (ap simulatedIs (c .before .answer2 .given .1)) ∙ run .answered in
     let number = refused-is _ _ tt refusal in
     let kept = answer-kept _ _ tt countsNumbers _ refusal in
-    (kept .0, (run .1 .0, (run .1 .1 .0, (kept .1, refused-keeps _ (λ e. number .1 (sym (number .0) ∙ e))))))
+    record {
+      number-is = kept .0;
+      decisions-given = run .decisions-given;
+      rounds-given = run .rounds-given;
+      counts-given = kept .1;
+      demand-3 = refused-keeps _ (λ e. number .1 (sym (number .0) ∙ e));
+    }
 
 pub fcwfa-simulate-spec : {M : Type 1} → statement M
 fcwfa-simulate-spec =

@@ -25,7 +25,12 @@ returns : tie.Need-returns
 returns c =
     let a = c .before .before .before .before .before .before .args in
     let e = tables-refuse (a .text .now) largest longest (a .votes .now) (a .crashes .now) (a .reaches .now) (was-false (c .before .are-of-size .ensures) (c .if1 .taken)) in
-    (read-refused _ _ _ _ _ _ e, (table-kept _ _ _ _ _ _ e _ _, (table-kept _ _ _ _ _ _ e _ _, table-kept _ _ _ _ _ _ e _ _)))
+    record {
+      answered = read-refused _ _ _ _ _ _ e;
+      votes-read = table-kept _ _ _ _ _ _ e _ _;
+      crashes-read = table-kept _ _ _ _ _ _ e _ _;
+      reaches-read = table-kept _ _ _ _ _ _ e _ _;
+    }
 
 -- the tables are of their size
 sized : (c : tie.Else1) → let a = c .before .before .before .before .before .before .args in tablesOf largest (length (a .votes .now)) (length (a .crashes .now)) (length (a .reaches .now)) ≡ true
@@ -46,7 +51,12 @@ returns-2 c =
     let a = h .before .before .before .before .before .before .before .args in
     let told = ap readingIs (c .enum-told .given .1) in
     let e = head-refused (a .text .now) largest longest (a .votes .now) (a .crashes .now) (a .reaches .now) (sized (h .before)) (sym told ∙ h .read-head .ensures) in
-    (told ∙ read-refused _ _ _ _ _ _ e, (table-kept _ _ _ _ _ _ e _ _, (table-kept _ _ _ _ _ _ e _ _, table-kept _ _ _ _ _ _ e _ _)))
+    record {
+      answered = told ∙ read-refused _ _ _ _ _ _ e;
+      votes-read = table-kept _ _ _ _ _ _ e _ _;
+      crashes-read = table-kept _ _ _ _ _ _ e _ _;
+      reaches-read = table-kept _ _ _ _ _ _ e _ _;
+    }
 
 -- the sizes are those of the text, and what is left to ask are the questions of the rest
 passed-head : (c : tie.After-head) → let a = c .before .before .before .before .before .before .before .before .before .args in let text = a .text .now in
@@ -85,13 +95,13 @@ returns-3 : tie.Need-returns-3
 returns-3 c =
     let r = c .before .before .before .before .before .before .before .before .before in
     let p = passed-head (r .before .before .before .before .before) .0 in
-    let e = sym (answered-by-rest r) ∙ ap linesIs (c .before .rest .given .1) in (
-      read-refused _ _ _ _ _ _ e,
-      (
-        r .read-rest .ensures .1 .0 ∙ table-read _ _ _ _ _ _ p _ _,
-        (r .read-rest .ensures .1 .1 .0 ∙ table-read _ _ _ _ _ _ p _ _, r .read-rest .ensures .1 .1 .1 ∙ table-read _ _ _ _ _ _ p _ _),
-      ),
-    )
+    let e = sym (answered-by-rest r) ∙ ap linesIs (c .before .rest .given .1) in
+    record {
+      answered = read-refused _ _ _ _ _ _ e;
+      votes-read = r .read-rest .ensures .1 .0 ∙ table-read _ _ _ _ _ _ p _ _;
+      crashes-read = r .read-rest .ensures .1 .1 .0 ∙ table-read _ _ _ _ _ _ p _ _;
+      reaches-read = r .read-rest .ensures .1 .1 .1 ∙ table-read _ _ _ _ _ _ p _ _;
+    }
 
 enum-told-2 : tie.Need-enum-told-2
 enum-told-2 c = search needs
@@ -110,13 +120,13 @@ returns-4 c =
     let r = c .before .before .before .before .before .before .before .before in
     let h = passed-head (r .before .before .before .before .before) in
     let p = h .0 in
-    let e = sym (answered-by-rest r) ∙ ap linesIs (c .enum-told2 .given .1) in (
-      ap accepted (sym (h .1)) ∙ read-accepted _ _ _ _ _ _ e,
-      (
-        r .read-rest .ensures .1 .0 ∙ table-read _ _ _ _ _ _ p _ _,
-        (r .read-rest .ensures .1 .1 .0 ∙ table-read _ _ _ _ _ _ p _ _, r .read-rest .ensures .1 .1 .1 ∙ table-read _ _ _ _ _ _ p _ _),
-      ),
-    )
+    let e = sym (answered-by-rest r) ∙ ap linesIs (c .enum-told2 .given .1) in
+    record {
+      answered = ap accepted (sym (h .1)) ∙ read-accepted _ _ _ _ _ _ e;
+      votes-read = r .read-rest .ensures .1 .0 ∙ table-read _ _ _ _ _ _ p _ _;
+      crashes-read = r .read-rest .ensures .1 .1 .0 ∙ table-read _ _ _ _ _ _ p _ _;
+      reaches-read = r .read-rest .ensures .1 .1 .1 ∙ table-read _ _ _ _ _ _ p _ _;
+    }
 
 pub read-spec : {M : Type 1} → statement M
 read-spec =

@@ -44,7 +44,7 @@ sized c = (search needs, search needs, search needs)
 
 -- the text is accepted
 accepts : (c : tie.After-reading) → let r = c .before .before .before .before .before in accepted (record { n = c .reading .given .0 .0; t = c .reading .given .0 .1 .0 }) ≡ readAnswer largest longest (r .before .before .before .before .before .before .before .before .args .text .now) (r .before .before .before .before .before .before .zero-bytes .result) (r .before .before .before .before .before .zero-bytes2 .result) (r .before .before .before .before .zero-sets .result)
-accepts c = let r = c .before .before .before .before .before in sym (ap readingIs (c .reading .given .1)) ∙ r .read .ensures .0
+accepts c = let r = c .before .before .before .before .before in sym (ap readingIs (c .reading .given .1)) ∙ r .read .ensures .answered
 
 -- and its schedule stands in the first n entries of the tables
 schedule : (c : tie.After-reading) → let r = c .before .before .before .before .before in let n = c .reading .given .0 .0 in let t = c .reading .given .0 .1 .0 in
@@ -52,7 +52,7 @@ schedule : (c : tie.After-reading) → let r = c .before .before .before .before
 schedule c =
     let r = c .before .before .before .before .before in
     let long = sized r in
-    schedule-read _ _ _ _ (long .0) (long .1) (long .2) (accepts c) _ _ _ (r .read .ensures .1 .0) (r .read .ensures .1 .1 .0) (r .read .ensures .1 .1 .1)
+    schedule-read _ _ _ _ (long .0) (long .1) (long .2) (accepts c) _ _ _ (r .read .ensures .votes-read) (r .read .ensures .crashes-read) (r .read .ensures .reaches-read)
 
 of-tables-requires : tie.Need-of-tables-requires
 of-tables-requires c κs =
@@ -65,7 +65,7 @@ enum-known-reading-2 c = search needs
 
 -- the text is refused
 refuses : (c : tie.After-reading2) → let r = c .before .before .before .before .before in refused (c .reading2 .given .0 .0) (c .reading2 .given .0 .1 .0) ≡ readAnswer largest longest (r .before .before .before .before .before .before .before .before .args .text .now) (r .before .before .before .before .before .before .zero-bytes .result) (r .before .before .before .before .before .zero-bytes2 .result) (r .before .before .before .before .zero-sets .result)
-refuses c = let r = c .before .before .before .before .before in sym (ap readingIs (c .reading2 .given .1)) ∙ r .read .ensures .0
+refuses c = let r = c .before .before .before .before .before in sym (ap readingIs (c .reading2 .given .1)) ∙ r .read .ensures .answered
 
 refused-requires : tie.Need-refused-requires
 refused-requires c κs =

@@ -17,10 +17,13 @@ returns c =
     let s = scheduleOf (a .n) (a .t) (now (a .votes)) (now (a .crashes)) (now (a .reaches)) in
     let d = now (a .decisions) in
     let r = now (a .rounds) in
-    let left = c .before .run .ensures in (
-      refused-answer s d r left (c .if1 .taken),
-      (kept-table s d r left (c .if1 .taken) _ _, (kept-table s d r left (c .if1 .taken) _ _, refused-keeps s d r left (c .if1 .taken))),
-    )
+    let left = c .before .run .ensures in
+    record {
+      answered = refused-answer s d r left (c .if1 .taken);
+      decisions-given = kept-table s d r left (c .if1 .taken) _ _;
+      rounds-given = kept-table s d r left (c .if1 .taken) _ _;
+      demand-3 = refused-keeps s d r left (c .if1 .taken);
+    }
 
 fill-requires : tie.Need-fill-requires
 fill-requires c κs =
@@ -51,13 +54,13 @@ returns-2 c =
     let left = c .before .before .before .before .before .before .before .before .before .before .before .run .ensures in
     let accepting = c .before .before .before .before .before .before .before .before .before .before .if1 .left in
     let filled = c .before .before .before .before .before .before .fill .ensures in
-    let found = c .counts-of .ensures in (
-      completed-answer s d r left accepting (filled .0) (filled .1) found,
-      (
-        given-decisions s d r left accepting (filled .0) (filled .1) found,
-        (given-rounds s d r left accepting (filled .0) (filled .1) found, completed-keeps s d r left accepting (filled .0) (filled .1) found),
-      ),
-    )
+    let found = c .counts-of .ensures in
+    record {
+      answered = completed-answer s d r left accepting (filled .0) (filled .1) found;
+      decisions-given = given-decisions s d r left accepting (filled .0) (filled .1) found;
+      rounds-given = given-rounds s d r left accepting (filled .0) (filled .1) found;
+      demand-3 = completed-keeps s d r left accepting (filled .0) (filled .1) found;
+    }
 
 pub simulate-spec : {M : Type 1} → statement M
 simulate-spec =

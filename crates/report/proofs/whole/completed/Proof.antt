@@ -56,14 +56,14 @@ lentRounds c = now (c .before .before .before .before .before .before .before .b
 
 -- it is accepted, so the simulator gives the counts of its report
 counted : (c : tie.After-simulate) → simulatedIs (c .simulate .result) ≡ accepted (countsOf (report fcwfa (given c)))
-counted c = c .simulate .ensures .0 ∙ counts-given largest (given c) (lentDecisions c) (lentRounds c) (c .before .before .before .before .before .before .before .before .before .pre)
+counted c = c .simulate .ensures .answered ∙ counts-given largest (given c) (lentDecisions c) (lentRounds c) (c .before .before .before .before .before .before .before .before .before .pre)
 
 -- and its tables
 decided : (c : tie.After-simulate) → c .simulate .last .1 .1 .1 .1 .1 .0 ≡ report fcwfa (given c) .decisions
-decided c = c .simulate .ensures .1 .0 ∙ table-given largest (given c) (lentDecisions c) (lentRounds c) (c .before .before .before .before .before .before .before .before .before .pre) _ (lentDecisions c)
+decided c = c .simulate .ensures .decisions-given ∙ table-given largest (given c) (lentDecisions c) (lentRounds c) (c .before .before .before .before .before .before .before .before .before .pre) _ (lentDecisions c)
 
 timed : (c : tie.After-simulate) → c .simulate .last .1 .1 .1 .1 .1 .1 .0 ≡ report fcwfa (given c) .rounds
-timed c = c .simulate .ensures .1 .1 .0 ∙ table-given largest (given c) (lentDecisions c) (lentRounds c) (c .before .before .before .before .before .before .before .before .before .pre) _ (lentRounds c)
+timed c = c .simulate .ensures .rounds-given ∙ table-given largest (given c) (lentDecisions c) (lentRounds c) (c .before .before .before .before .before .before .before .before .before .pre) _ (lentRounds c)
 
 returns : tie.Need-returns
 returns c = absurd (not-accepted (sym (ap simulatedIs (c .enum-told .given .1)) ∙ counted (c .before .before .before .before .before .before)))
