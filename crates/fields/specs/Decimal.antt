@@ -21,3 +21,7 @@ decimalIn (suc steps) x = cond (ltb x 10) (letter x ∷ []) (decimalIn steps (x 
 -- the digits of x: x + 1 places are enough for all of them
 unfoldable pub decimal : ℕ → List ℕ
 decimal x = decimalIn x x
+
+-- a number and the byte that ends its field
+unfoldable pub field : ℕ → ℕ → List ℕ
+field x end = decimal x ++ (end ∷ [])

@@ -21,7 +21,7 @@ use Rattle.run.proofs.Theorem.{accepted-run}
 use Rattle.simulator.specs.declared.Counts.{Counts}
 use Rattle.simulator.specs.Answers.{countsOf, givenBy, simulateQuestion, simulateAnswer}
 use Rattle.text.specs.Output.{reportText}
-use Rattle.report.specs.Bytes.{AllDecisions}
+use Rattle.report.specs.Answers.{AllDecisions}
 
 module _ (limit : ℕ) (s : Schedule) (decisions rounds : List ℕ) (passed : simulateQuestion limit s decisions rounds ≡ 0) where
   pub counts-given : simulateAnswer limit s decisions rounds ≡ accepted (countsOf (report fcwfa s))

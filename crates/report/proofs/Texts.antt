@@ -4,16 +4,16 @@ use mathlib.Core.Path.{_≡_, sym, ap, _∙_, subst}
 use mathlib.Core.Logic.{inl, inr}
 use mathlib.Core.List.{List}
 use mathlib.Core.Bool.{true}
-use Prim.Native.Nat.{ℕ, _≤_}
+use Prim.Native.Nat.{ℕ, _-_, _≤_}
 use native.Mathlib.Omega.{arith}
 use borrow.Author.Tests.{eq-eqb}
-use lib.ListN.{length, getD, take}
-use lib.Seq.{take-at, length-take-le, getD-take, ext-getD}
+use lib.ListN.{length, take, length-append}
+use lib.Seq.{take-at, take-append-seam, length-take-le}
 use Rattle.io.specs.Counts.{Counts}
 use Rattle.laws.specs.Below.{tabulate}
 use Rattle.laws.specs.Answer.{ask, Answer, accepted, refused, answer, andNext}
 use Rattle.laws.proofs.Answer.{valueOr, not-accepted, and-next-passes, and-next-refused, and-next-accepted, and-next-either}
-use Rattle.laws.proofs.Lists.{length-tabulate, getD-tabulate}
+use Rattle.laws.proofs.Lists.{length-tabulate}
 use Rattle.lines.specs.Lines.{lineOf}
 use Rattle.sets.specs.Largest.{largest}
 use Rattle.schedule.specs.Schedule.{Schedule, scheduleOf}
@@ -28,18 +28,8 @@ use Rattle.text.specs.Facts.{PrintsDemand3}
 use Rattle.text.proofs.Accepted as Text
 use Rattle.reader.specs.Answers.{givenOr, filled, readQuestions, readAnswer, tableAfter, votesAfter, crashesAfter, reachesAfter}
 use Rattle.report.specs.declared.Output.{Output}
-use Rattle.report.specs.Bytes.{padded}
-use Rattle.report.specs.Answers.{outputSize, outputIs, OutputKeepsDemand3}
-
--- the bytes of an output that fits, without the zeros after them
-pub take-padded : (size : ℕ) (written : List ℕ) → length written ≤ size → take (length written) (padded size written) ≡ written
-unfolding padded
-take-padded size written fits =
-    let bytes = tabulate size (λ k. getD written k 0) in
-    let long : length bytes ≡ size = length-tabulate size (λ k. getD written k 0) in
-    let front : length (take (length written) bytes) ≡ length written = length-take-le (length written) bytes (omega arith) in
-    ext-getD 0 (take (length written) bytes) written front
-    (λ i below. getD-take (length written) bytes i 0 (omega arith) ∙ getD-tabulate size (λ k. getD written k 0) i 0 (omega arith))
+use Rattle.report.proofs.Buffer.{zeros-long}
+use Rattle.report.specs.Answers.{zeros, outputSize, outputIs, OutputKeepsDemand3}
 
 same-schedule : {n t n′ t′ : ℕ} {v c m v′ c′ m′ : List ℕ} → n ≡ n′ → t ≡ t′ → v ≡ v′ → c ≡ c′ → m ≡ m′ → scheduleOf n t v c m ≡ scheduleOf n′ t′ v′ c′ m′
 same-schedule en et ev ec em = λ i. record { n = en i; t = et i; votes = ev i; crashes = ec i; reaches = em i }
@@ -118,9 +108,11 @@ module _ (text votes crashes reaches : List ℕ) (ev : length votes ≡ largest)
 
 -- The length counts bytes at the start of the buffer.
 pub counts : (written : List ℕ) {r : Output} → r ≡ outputIs written → r .length ≤ outputSize → Counts (r .length) (r .bytes)
-unfolding padded
 counts written {r} e fits =
-    let long : length (r .bytes) ≡ outputSize = ap (λ (x : Output). length (x .bytes)) e ∙ length-tabulate outputSize (λ k. getD written k 0) in
+    let count : r .length ≡ length written = ap (λ (x : Output). x .length) e in
+    let all = length-append written (zeros (outputSize - length written)) in
+    let behind = zeros-long (outputSize - length written) in
+    let long : length (r .bytes) ≡ outputSize = ap (λ (x : Output). length (x .bytes)) e ∙ (omega arith) in
     (omega arith, sym (length-take-le (r .length) (r .bytes) (omega arith)))
 
 -- Demand 3 of the bytes that are answered.
@@ -128,5 +120,5 @@ pub keeps-demand-3 : (text : List ℕ) (r : Output) → r ≡ outputIs (outputOf
 keeps-demand-3 text r e fits =
     let written = outputOf text largest longest in
     let long : r .length ≡ length written = ap (λ (x : Output). x .length) e in
-    let bytes : take (r .length) (r .bytes) ≡ written = ap (λ (x : Output). take (x .length) (x .bytes)) e ∙ take-padded outputSize written (omega arith) in
+    let bytes : take (r .length) (r .bytes) ≡ written = ap (λ (x : Output). take (x .length) (x .bytes)) e ∙ take-append-seam written (zeros (outputSize - length written)) in
     record { kept = λ s h. subst (PrintsDemand3 s) (sym bytes) (Text.demand-3 text largest longest s h) }

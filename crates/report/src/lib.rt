@@ -2,7 +2,6 @@
 //
 // `printed` takes any bytes and answers the whole output: the report of an accepted text, or the three
 // lines of a refusal. It has no `requires`.
-mod bytes;
 mod report_lines;
 mod whole;
 

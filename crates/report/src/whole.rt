@@ -2,7 +2,7 @@
 ghost use mathlib.Core.Path.{_≡_};
 ghost use mathlib.Core.Bool.{true};
 ghost use Prim.Native.Nat.{_≤_};
-ghost use lib.ListN.{length, take, replicate};
+ghost use lib.ListN.{length, take};
 ghost use Rattle.lines.specs.Lines.{lineOf};
 ghost use Rattle.sets.specs.Largest.{largest};
 ghost use Rattle.schedule.specs.Schedule.{scheduleOf};
@@ -11,7 +11,7 @@ ghost use Rattle.run.specs.Protocol.{fcwfa};
 ghost use Rattle.run.specs.Report.{report};
 ghost use Rattle.text.specs.Reading.{longest};
 ghost use Rattle.text.specs.Output.{reportText, refusalText};
-ghost use Rattle.report.specs.Answers.{outputSize, outputIs};
+ghost use Rattle.report.specs.Answers.{zeros, outputSize, outputIs};
 use crate::OUTPUT;
 use crate::Output;
 use crate::report_lines::put_refusal;
@@ -23,7 +23,7 @@ use simulator::Simulated;
 
 // A buffer for the output.
 fn blank_output() -> [u8; OUTPUT]
-    ensures zeros { λ r. ⌜ r ≡ replicate outputSize 0 ⌝ }
+    ensures zeros { λ r. ⌜ r ≡ zeros outputSize ⌝ }
 {
     [0u8; OUTPUT]
 }

@@ -8,11 +8,11 @@ use Rattle.laws.specs.Below.{fold}
 use Rattle.laws.proofs.Counting.{split}
 use Rattle.lines.specs.Lines.{lf, lineLength, afterLine, afterLines}
 use Rattle.lines.proofs.Endings.{after-lf, after-byte, after-table}
-use Rattle.fields.specs.Decimal.{decimal}
+use Rattle.fields.specs.Decimal.{decimal, field}
 use Rattle.fields.specs.Fields.{space}
 use Rattle.fields.proofs.Digits.{after-decimal}
 use Rattle.text.specs.Forms.{sizesHeading, processesHeading}
-use Rattle.text.specs.Written.{field, eachLine, sizesLine, lettersOf, processLine}
+use Rattle.text.specs.Written.{eachLine, sizesLine, lettersOf, processLine}
 
 module _ (rest : List ℕ) where
   -- A line byte by byte: its digits and letters, and what ends each field.

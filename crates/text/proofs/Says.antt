@@ -13,11 +13,11 @@ use Rattle.laws.specs.Below.{fold}
 use Rattle.laws.proofs.Test.{true-or-false, cond-false}
 use Rattle.laws.proofs.Counting.{below-or-top}
 use Rattle.lines.specs.Lines.{lf}
-use Rattle.fields.specs.Decimal.{letter, decimal}
+use Rattle.fields.specs.Decimal.{letter, decimal, field}
 use Rattle.fields.specs.Fields.{space}
 use Rattle.fields.proofs.Digits.{same-number}
 use Rattle.run.specs.Report.{Report}
-use Rattle.text.specs.Written.{field, eachLine}
+use Rattle.text.specs.Written.{eachLine}
 use Rattle.text.specs.Output.{countsHeading, decisionsHeading, refusedHeading, decisionLetter, countsLine, decisionLine, decisionLines, reportText, refusalText}
 use Rattle.text.specs.Facts.{SaysTheSame}
 

@@ -7,13 +7,13 @@ use native.Mathlib.Omega.{arith}
 use lib.ListN.{length, length-append}
 use Rattle.laws.specs.Below.{fold}
 use Rattle.lines.specs.Lines.{lf}
-use Rattle.fields.specs.Decimal.{decimal}
+use Rattle.fields.specs.Decimal.{decimal, field}
 use Rattle.fields.specs.Fields.{space}
 use Rattle.fields.proofs.Digits.{decimal-short}
 use Rattle.sets.specs.Largest.{largest}
 use Rattle.schedule.specs.Schedule.{Schedule, voteOf, crashOf, reachOf}
 use Rattle.schedule.specs.Questions.{Accepted}
-use Rattle.text.specs.Written.{field, eachLine, sizesLine, processLine, textOf}
+use Rattle.text.specs.Written.{eachLine, sizesLine, processLine, textOf}
 use Rattle.text.specs.Reading.{longest}
 use Rattle.text.proofs.Letters.{letters-long}
 

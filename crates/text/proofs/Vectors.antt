@@ -6,7 +6,7 @@ use Rattle.laws.specs.Below.{sum, count, tabulate, fold}
 use Rattle.laws.specs.Answer.{ask, answer, andNext, nextEach}
 use Rattle.lines.specs.Lines.{lineLength, afterLine, afterLines, lineOf}
 use Rattle.fields.specs.Found.{thenRead}
-use Rattle.fields.specs.Decimal.{isDigit, decimalIn, decimal}
+use Rattle.fields.specs.Decimal.{isDigit, decimalIn, decimal, field}
 use Rattle.fields.specs.Fields.{startsWith, hasByte, ended, numberField, digitField, reachField}
 use Rattle.member.specs.State.{stopped}
 use Rattle.member.specs.Saying.{says}
@@ -17,7 +17,7 @@ use Rattle.schedule.specs.Questions.{reachRight, entryQuestion}
 use Rattle.run.specs.Run.{completesRound, isHeard, delivered, codeHeard, rowOf, stateAfter, nextState, played, opened, statesAfter, final}
 use Rattle.run.specs.Report.{sentBy, messages, decisionOf, before, firstWith, firstOf, lastOf}
 use Rattle.text.specs.Forms.{sizesAt, entryAt}
-use Rattle.text.specs.Written.{field, eachLine}
+use Rattle.text.specs.Written.{eachLine}
 use Rattle.text.specs.Reading.{onLine, scheduleIn, entryQuestions, headQuestions, tailQuestions, restQuestions, textQuestions, textAnswer}
 use Rattle.text.specs.Output.{decisionLetter, countsLine, decisionLine, decisionLines, reportText, refusalText, outputOf}
 use Rattle.text.specs.Vectors.{TextVectors, LengthVectors}

@@ -8,12 +8,12 @@ use lib.Dec.{eqb}
 use Rattle.laws.specs.Quoted.{quoted}
 use Rattle.laws.specs.Answer.{Answer, accepted, refused}
 use Rattle.lines.specs.Lines.{lf, lineOf}
-use Rattle.fields.specs.Decimal.{letter}
+use Rattle.fields.specs.Decimal.{letter, field}
 use Rattle.fields.specs.Fields.{space}
 use Rattle.schedule.specs.Schedule.{Schedule}
 use Rattle.run.specs.Protocol.{fcwfa}
 use Rattle.run.specs.Report.{Report, report}
-use Rattle.text.specs.Written.{field, eachLine}
+use Rattle.text.specs.Written.{eachLine}
 use Rattle.text.specs.Reading.{textAnswer}
 
 -- `n t f first last messages`, with its LF

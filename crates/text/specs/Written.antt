@@ -3,15 +3,11 @@ use Prim.Native.Nat.{ℕ, _+_}
 use mathlib.Core.List.{List, [], _∷_, _++_}
 use Rattle.laws.specs.Below.{bit, tabulate, fold}
 use Rattle.lines.specs.Lines.{lf}
-use Rattle.fields.specs.Decimal.{letter, decimal}
+use Rattle.fields.specs.Decimal.{letter, field}
 use Rattle.fields.specs.Fields.{space}
 use Rattle.sets.specs.Sets.{names}
 use Rattle.schedule.specs.Schedule.{Schedule, voteOf, crashOf, reachOf}
 use Rattle.text.specs.Forms.{sizesHeading, processesHeading}
-
--- a number and the byte that ends its field
-unfoldable pub field : ℕ → ℕ → List ℕ
-field x end = decimal x ++ (end ∷ [])
 
 -- the lines of n processes, one after the other
 unfoldable pub eachLine : ℕ → (ℕ → List ℕ) → List ℕ

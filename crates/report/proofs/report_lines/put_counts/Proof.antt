@@ -1,10 +1,10 @@
 -- `put_counts` meets its contract: its six fields are written in order. Assumes nothing.
 use borrow.Author.Needs.{needs}
 use Rattle.text.specs.Output.{countsLine}
-use Rattle.report.proofs.Buffer.{writes-more}
+use Rattle.buffer.proofs.Written.{writes-more}
 use Rattle.report.proofs.report_lines.put_counts.Reads as reads
 use Rattle.report.proofs.report_lines.put_counts.Lts as lts
-use Rattle.report.proofs.bytes.put_field.Reads as put-field-reads
+use Rattle.buffer.proofs.put_field.Reads as put-field-reads
 use Rattle.report.proofs.report_lines.put_counts.Statement.{statement}
 use Rattle.report.proofs.report_lines.put_counts.Tie as tie
 

@@ -4,11 +4,11 @@ use mathlib.Core.List.{[], _∷_}
 use Prim.Native.Nat.{ℕ}
 use borrow.Author.Needs.{needs}
 use Rattle.text.specs.Output.{decisionLine}
-use Rattle.report.proofs.Buffer.{writes-same, writes-more}
+use Rattle.buffer.proofs.Written.{writes-same, writes-more}
 use Rattle.report.proofs.report_lines.put_decision.Reads as reads
 use Rattle.report.proofs.report_lines.put_decision.Lts as lts
-use Rattle.report.proofs.bytes.put_byte.Reads as put-byte-reads
-use Rattle.report.proofs.bytes.put_field.Reads as put-field-reads
+use Rattle.buffer.proofs.put_byte.Reads as put-byte-reads
+use Rattle.buffer.proofs.put_field.Reads as put-field-reads
 use Rattle.report.proofs.report_lines.decision_letter.Reads as decision-letter-reads
 use Rattle.report.proofs.report_lines.put_decision.Statement.{statement}
 use Rattle.report.proofs.report_lines.put_decision.Tie as tie

@@ -9,8 +9,8 @@ use Rattle.laws.proofs.Folds.{fold-step}
 use Rattle.laws.proofs.Lists.{read-same}
 use Rattle.text.specs.Written.{eachLine}
 use Rattle.text.specs.Output.{decisionLine, decisionLines}
-use Rattle.report.specs.Bytes.{Writes}
-use Rattle.report.proofs.Buffer.{writes-none, writes-same, writes-more}
+use Rattle.buffer.specs.Buffer.{Writes}
+use Rattle.buffer.proofs.Written.{writes-none, writes-same, writes-more}
 use Rattle.report.proofs.report_lines.put_decisions.Statement.{statement}
 use Rattle.report.proofs.report_lines.put_decisions.Tie as tie
 

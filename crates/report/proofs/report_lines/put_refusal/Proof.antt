@@ -1,12 +1,12 @@
 -- `put_refusal` meets its contract: its parts are written in order. Assumes nothing.
 use borrow.Author.Needs.{needs}
 use Rattle.text.specs.Output.{refusalText}
-use Rattle.report.proofs.Buffer.{writes-more}
+use Rattle.buffer.proofs.Written.{writes-more}
 use Rattle.report.proofs.report_lines.put_refusal.Reads as reads
 use Rattle.report.proofs.report_lines.put_refusal.Lts as lts
-use Rattle.report.proofs.bytes.put.Reads as put-reads
-use Rattle.report.proofs.bytes.put_byte.Reads as put-byte-reads
-use Rattle.report.proofs.bytes.put_field.Reads as put-field-reads
+use Rattle.buffer.proofs.put.Reads as put-reads
+use Rattle.buffer.proofs.put_byte.Reads as put-byte-reads
+use Rattle.buffer.proofs.put_field.Reads as put-field-reads
 use Rattle.report.proofs.report_lines.put_refusal.Statement.{statement}
 use Rattle.report.proofs.report_lines.put_refusal.Tie as tie
 

@@ -1,10 +1,10 @@
 -- `put_report` meets its contract: headings and lines are written in order. Assumes nothing.
 use borrow.Author.Needs.{needs}
 use Rattle.text.specs.Output.{reportText}
-use Rattle.report.proofs.Buffer.{writes-more}
+use Rattle.buffer.proofs.Written.{writes-more}
 use Rattle.report.proofs.report_lines.put_report.Reads as reads
 use Rattle.report.proofs.report_lines.put_report.Lts as lts
-use Rattle.report.proofs.bytes.put.Reads as put-reads
+use Rattle.buffer.proofs.put.Reads as put-reads
 use Rattle.report.proofs.report_lines.put_counts.Reads as put-counts-reads
 use Rattle.report.proofs.report_lines.put_decisions.Reads as put-decisions-reads
 use Rattle.report.proofs.report_lines.put_report.Statement.{statement}

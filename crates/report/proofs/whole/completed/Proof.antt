@@ -16,7 +16,7 @@ use Rattle.run.specs.Report.{report}
 use Rattle.simulator.specs.Answers.{simulatedIs, countsOf, givenBy}
 use Rattle.text.specs.Output.{reportText}
 use Rattle.report.specs.Answers.{outputIs}
-use Rattle.report.specs.Bytes.{AllDecisions}
+use Rattle.report.specs.Answers.{AllDecisions}
 use Rattle.report.proofs.Buffer.{written-output}
 use Rattle.report.proofs.Lengths.{report-short}
 use Rattle.report.proofs.Given.{print-given, counts-given, table-given, n-small, decisions-long, rounds-long, all-decisions}

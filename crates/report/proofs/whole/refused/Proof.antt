@@ -6,7 +6,8 @@ use lib.ListN.{length}
 use Rattle.lines.specs.Lines.{lineOf}
 use Rattle.text.specs.Reading.{longest}
 use Rattle.text.specs.Output.{refusalText}
-use Rattle.report.proofs.Buffer.{writes-same, written-output}
+use Rattle.buffer.proofs.Written.{writes-same}
+use Rattle.report.proofs.Buffer.{written-output}
 use Rattle.report.proofs.Lengths.{refusal-short}
 use Rattle.report.proofs.whole.refused.Statement.{statement}
 use Rattle.report.proofs.whole.refused.Tie as tie

@@ -2,16 +2,15 @@
 use mathlib.Core.Path.{_∙_}
 use borrow.Author.Needs.{needs}
 use Rattle.io.proofs.decimal.Reads as decimal-reads
-use Rattle.fields.specs.Decimal.{decimal}
-use Rattle.text.specs.Written.{field}
-use Rattle.report.proofs.Digits.{digits-decimal}
-use Rattle.report.proofs.Buffer.{writes-same, writes-more}
-use Rattle.report.proofs.bytes.put_field.Reads as reads
-use Rattle.report.proofs.bytes.put_field.Lts as lts
-use Rattle.report.proofs.bytes.put.Reads as put-reads
-use Rattle.report.proofs.bytes.put_byte.Reads as put-byte-reads
-use Rattle.report.proofs.bytes.put_field.Statement.{statement}
-use Rattle.report.proofs.bytes.put_field.Tie as tie
+use Rattle.fields.specs.Decimal.{decimal, field}
+use Rattle.buffer.proofs.Digits.{digits-decimal}
+use Rattle.buffer.proofs.Written.{writes-same, writes-more}
+use Rattle.buffer.proofs.put_field.Reads as reads
+use Rattle.buffer.proofs.put_field.Lts as lts
+use Rattle.buffer.proofs.put.Reads as put-reads
+use Rattle.buffer.proofs.put_byte.Reads as put-byte-reads
+use Rattle.buffer.proofs.put_field.Statement.{statement}
+use Rattle.buffer.proofs.put_field.Tie as tie
 
 decimal-requires : tie.Need-decimal-requires
 decimal-requires c κs = search needs

@@ -1,8 +1,11 @@
-// Writing bytes into a lent buffer, one part after the other. Each function takes the place of the
-// next byte and answers the place after what it wrote; what does not fit is left out.
+// Writing bytes into a lent buffer, one part after the other.
+//
+// Each function takes the place of the next byte and answers the place after what it wrote. What stood
+// behind it stays, and what does not fit is left out. Each takes any buffer and any place, writes what
+// the definitions in specs/Buffer.antt give, and has no `requires`.
 ghost use mathlib.Core.List.{_∷_, []};
-ghost use Rattle.text.specs.Written.{field};
-ghost use Rattle.report.specs.Bytes.{Writes};
+ghost use Rattle.fields.specs.Decimal.{field};
+ghost use Rattle.buffer.specs.Buffer.{Writes};
 
 // Writes one byte.
 pub fn put_byte(buffer: &mut [u8], at: usize, byte: u8) -> usize

@@ -5,10 +5,10 @@ use native.Mathlib.Omega.{arith}
 use borrow.Author.Needs.{needs}
 use lib.ListN.{length, take}
 use lib.Seq.{take-all}
-use Rattle.report.specs.Bytes.{Writes}
-use Rattle.report.proofs.Buffer.{writes-none, writes-same, writes-next}
-use Rattle.report.proofs.bytes.put.Statement.{statement}
-use Rattle.report.proofs.bytes.put.Tie as tie
+use Rattle.buffer.specs.Buffer.{Writes}
+use Rattle.buffer.proofs.Written.{writes-none, writes-same, writes-next}
+use Rattle.buffer.proofs.put.Statement.{statement}
+use Rattle.buffer.proofs.put.Tie as tie
 
 abbrev Inv-loop : tie.InvT-loop
 Inv-loop buffer₀ at part next₀ i₀ buffer next i = (i ≤ length part) × (length buffer ≡ length buffer₀) × Writes buffer₀ at buffer next (take i part)
