@@ -86,9 +86,9 @@ module _ (text votes crashes reaches : List ℕ) (ev : length votes ≡ largest)
     pub read-question : (s : Schedule) → s ≡ scheduleIn text → question s largest true ≡ 0
     read-question s h = subst (λ (x : Schedule). question x largest true ≡ 0) (sym h) (Text.accepted-schedule text largest longest (scheduleIn text) text-accepted)
 
-    pub report-printed : (s : Schedule) → s ≡ scheduleIn text → reportText (s .n) (s .t) (report fcwfa s) ≡ outputOf text largest longest
+    pub report-printed : (s : Schedule) → s ≡ scheduleIn text → reportText (s .n) (s .t) (report fcwfa s) ≡ outputOf fcwfa text largest longest
     unfolding outputOf
-    report-printed s h = ap (λ (x : Schedule). reportText (x .n) (x .t) (report fcwfa x)) h ∙ sym (ap (printed text) text-accepted)
+    report-printed s h = ap (λ (x : Schedule). reportText (x .n) (x .t) (report fcwfa x)) h ∙ sym (ap (printed fcwfa text) text-accepted)
 
   module _ {number k : ℕ} (e : refused number k ≡ readAnswer largest longest text votes crashes reaches) where
     refuses : asked ≡ refused number k
@@ -102,9 +102,9 @@ module _ (text votes crashes reaches : List ℕ) (ev : length votes ≡ largest)
     pub line-shown : length (lineOf k text) ≤ longest
     line-shown = Text.line-short text largest longest number k text-refused
 
-    pub refusal-printed : refusalText number k (lineOf k text) ≡ outputOf text largest longest
+    pub refusal-printed : refusalText number k (lineOf k text) ≡ outputOf fcwfa text largest longest
     unfolding outputOf
-    refusal-printed = sym (ap (printed text) text-refused)
+    refusal-printed = sym (ap (printed fcwfa text) text-refused)
 
 -- The length counts bytes at the start of the buffer.
 pub counts : (written : List ℕ) {r : Output} → r ≡ outputIs written → r .length ≤ outputSize → Counts (r .length) (r .bytes)
@@ -116,9 +116,9 @@ counts written {r} e fits =
     (omega arith, sym (length-take-le (r .length) (r .bytes) (omega arith)))
 
 -- Demand 3 of the bytes that are answered.
-pub keeps-demand-3 : (text : List ℕ) (r : Output) → r ≡ outputIs (outputOf text largest longest) → r .length ≤ outputSize → OutputKeepsDemand3 text r
+pub keeps-demand-3 : (text : List ℕ) (r : Output) → r ≡ outputIs (outputOf fcwfa text largest longest) → r .length ≤ outputSize → OutputKeepsDemand3 text r
 keeps-demand-3 text r e fits =
-    let written = outputOf text largest longest in
+    let written = outputOf fcwfa text largest longest in
     let long : r .length ≡ length written = ap (λ (x : Output). x .length) e in
     let bytes : take (r .length) (r .bytes) ≡ written = ap (λ (x : Output). take (x .length) (x .bytes)) e ∙ take-append-seam written (zeros (outputSize - length written)) in
     record { kept = λ s h. subst (PrintsDemand3 s) (sym bytes) (Text.demand-3 text largest longest s h) }

@@ -8,6 +8,7 @@ mod whole;
 ghost use mathlib.Core.Path.{_≡_};
 ghost use Rattle.io.specs.Counts.{Counts};
 ghost use Rattle.sets.specs.Largest.{largest};
+ghost use Rattle.run.specs.Protocol.{fcwfa};
 ghost use Rattle.text.specs.Reading.{longest};
 ghost use Rattle.text.specs.Output.{outputOf};
 ghost use Rattle.report.specs.Answers.{outputIs, OutputKeepsDemand3};
@@ -28,7 +29,7 @@ pub struct Output {
 
 // The whole output for a text.
 pub fn printed(text: &[u8]) -> Output
-    ensures output { λ r. ⌜ r ≡ outputIs (outputOf (now (text .entry)) largest longest) ⌝ }
+    ensures output { λ r. ⌜ r ≡ outputIs (outputOf fcwfa (now (text .entry)) largest longest) ⌝ }
     ensures fits { λ r. ⌜ Counts (r .length) (r .bytes) ⌝ }
     ensures demand_3 { λ r. ⌜ OutputKeepsDemand3 (now (text .entry)) r ⌝ }
 {

@@ -19,6 +19,7 @@ use Rattle.fields.specs.Fields.{startsWith}
 use Rattle.schedule.specs.Schedule.{Schedule, crashCount}
 use Rattle.schedule.specs.Questions.{question, processQuestion}
 use Rattle.schedule.proofs.Accepted.{accepted-question, process-question-rules}
+use Rattle.run.specs.Protocol.{fcwfa}
 use Rattle.run.proofs.Theorem.{accepted-run}
 use Rattle.text.specs.Forms.{sizesHeading, processesHeading, sizesAt, entryAt}
 use Rattle.text.specs.Reading.{isFound, onLine, sizesIn, scheduleIn, entryQuestions, headQuestions, tailQuestions, restQuestions, textQuestions, textAnswer}
@@ -185,11 +186,11 @@ module _ (text : List ℕ) where
         let both = text-passed s e in
         subst (λ (x : Schedule). question x limit true ≡ 0) (both .1) (passed-question (both .0))
 
-    pub demand-3 : (s : Schedule) → textAnswer text limit most ≡ accepted s → PrintsDemand3 s (outputOf text limit most)
+    pub demand-3 : (s : Schedule) → textAnswer text limit most ≡ accepted s → PrintsDemand3 s (outputOf fcwfa text limit most)
     unfolding outputOf
     demand-3 s e = record {
       given = _;
-      prints = ap (printed text) e;
+      prints = ap (printed fcwfa text) e;
       demand-3 = accepted-run s limit true (accepted-schedule s e) .given-demand-3;
     }
 

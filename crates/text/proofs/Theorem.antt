@@ -9,27 +9,16 @@ use Rattle.lines.specs.Lines.{lineOf}
 use Rattle.sets.specs.Largest.{largest}
 use Rattle.schedule.specs.Schedule.{Schedule}
 use Rattle.schedule.proofs.Accepted.{question-accepted}
-use Rattle.run.specs.Protocol.{fcwfa}
+use Rattle.run.specs.Protocol.{Protocol}
 use Rattle.run.specs.Report.{Report, report}
 use Rattle.text.specs.Reading.{longest, textAnswer}
 use Rattle.text.specs.Output.{reportText, refusalText, printed, outputOf}
-use Rattle.text.specs.Facts.{SaysTheSame, TextPromises, AllReadBack}
+use Rattle.text.specs.Facts.{SaysTheSame, TextPromises, OutputPromises, OutputDemand3, AllReadBack}
 use Rattle.text.proofs.Accepted.{accepted-schedule, line-bound, line-short, demand-3}
 use Rattle.text.proofs.Inverse.{written}
 use Rattle.text.proofs.ReadBack.{reads-back}
 use Rattle.text.proofs.Sizes.{text-short}
 use Rattle.text.proofs.Says.{one-reading, no-report, one-refusal}
-
--- whatever report is read in what is printed for an accepted text says the same as that of the run of its schedule
-printed-says : (limit most : ℕ) (text : List ℕ) (s : Schedule) → textAnswer text limit most ≡ accepted s
-    → (m u : ℕ) (b : Report) → outputOf text limit most ≡ reportText m u b → SaysTheSame (s .n) (s .t) (report fcwfa s) m u b
-unfolding outputOf
-printed-says limit most text s e m u b h = one-reading (s .n) (s .t) (report fcwfa s) m u b (sym (ap (printed text) e) ∙ h)
-
--- what is printed for a refused text is its refusal
-refusal-printed : (limit most : ℕ) (text : List ℕ) (number k : ℕ) → textAnswer text limit most ≡ refused number k → outputOf text limit most ≡ refusalText number k (lineOf k text)
-unfolding outputOf
-refusal-printed limit most text number k e = ap (printed text) e
 
 pub accepted-texts : (limit most : ℕ) → limit ≤ 99 → TextPromises limit most
 accepted-texts limit most high = record {
@@ -38,11 +27,29 @@ accepted-texts limit most high = record {
   reads-back = reads-back limit most high;
   line-bound = λ text. line-bound text limit most;
   line-short = λ text. line-short text limit most;
-  demand-3 = λ text s. demand-3 text limit most s;
-  says = λ text s. printed-says limit most text s;
-  told-apart = λ text number k e m u b h. no-report number k (lineOf k text) m u b (sym (refusal-printed limit most text number k e) ∙ h);
-  refusal-says = λ text number k e m j line h. one-refusal number k (lineOf k text) m j line (sym (refusal-printed limit most text number k e) ∙ h);
 }
+
+module _ (P : Protocol) (limit most : ℕ) where
+  -- whatever report is read in what is printed for an accepted text says the same as that of the run of its schedule
+  printed-says : (text : List ℕ) (s : Schedule) → textAnswer text limit most ≡ accepted s
+      → (m u : ℕ) (b : Report) → outputOf P text limit most ≡ reportText m u b → SaysTheSame (s .n) (s .t) (report P s) m u b
+  unfolding outputOf
+  printed-says text s e m u b h = one-reading (s .n) (s .t) (report P s) m u b (sym (ap (printed P text) e) ∙ h)
+
+  -- what is printed for a refused text is its refusal
+  refusal-printed : (text : List ℕ) (number k : ℕ) → textAnswer text limit most ≡ refused number k → outputOf P text limit most ≡ refusalText number k (lineOf k text)
+  unfolding outputOf
+  refusal-printed text number k e = ap (printed P text) e
+
+  pub outputs : OutputPromises P limit most
+  outputs = record {
+    says = printed-says;
+    told-apart = λ text number k e m u b h. no-report number k (lineOf k text) m u b (sym (refusal-printed text number k e) ∙ h);
+    refusal-says = λ text number k e m j line h. one-refusal number k (lineOf k text) m j line (sym (refusal-printed text number k e) ∙ h);
+  }
+
+pub output-demand-3 : (limit most : ℕ) → OutputDemand3 limit most
+output-demand-3 limit most = record { demand-3 = λ text s. demand-3 text limit most s }
 
 pub all-read-back : AllReadBack
 all-read-back s e = reads-back largest longest (omega arith) s e (text-short s (question-accepted s largest true e))

@@ -1,5 +1,7 @@
--- What holds of reading and of what is printed. Proved in proofs/Theorem.antt:
--- `accepted-texts : (limit most : ℕ) → limit ≤ 99 → TextPromises limit most`. Assumes nothing.
+-- What holds of reading and of what is printed. Proved in proofs/Theorem.antt, and assumes nothing:
+-- `accepted-texts : (limit most : ℕ) → limit ≤ 99 → TextPromises limit most`,
+-- `outputs : (P : Protocol) (limit most : ℕ) → OutputPromises P limit most`,
+-- `output-demand-3 : (limit most : ℕ) → OutputDemand3 limit most`.
 use Prim.Native.Nat.{ℕ, _+_, _≤_, _<_}
 use mathlib.Core.Path.{_≡_}
 use mathlib.Core.List.{List}
@@ -10,7 +12,7 @@ use Rattle.lines.specs.Lines.{lineOf}
 use Rattle.sets.specs.Largest.{largest}
 use Rattle.schedule.specs.Schedule.{Schedule}
 use Rattle.schedule.specs.Questions.{question}
-use Rattle.run.specs.Protocol.{fcwfa}
+use Rattle.run.specs.Protocol.{Protocol, fcwfa}
 use Rattle.run.specs.Report.{Report, report}
 use Rattle.run.specs.Given.{GivenDemand3}
 use Rattle.text.specs.Written.{textOf}
@@ -46,16 +48,21 @@ pub record TextPromises (limit most : ℕ) : Type 0 where
   -- a refused text is refused on line n + 4 at most, where n is the one that was read, and the refused line is not longer than a text may be
   pub line-bound : (text : List ℕ) (number k : ℕ) → textAnswer text limit most ≡ refused number k → k ≤ sizesIn text .n + 4
   pub line-short : (text : List ℕ) (number k : ℕ) → textAnswer text limit most ≡ refused number k → length (lineOf k text) ≤ most
-  -- demand 3 of what is printed for an accepted text
-  pub demand-3 : (text : List ℕ) (s : Schedule) → textAnswer text limit most ≡ accepted s → PrintsDemand3 s (outputOf text limit most)
-  -- and whatever report is read in what is printed for it, it says the same as that of the run of its schedule
+
+-- What holds of what is printed, under any protocol.
+pub record OutputPromises (P : Protocol) (limit most : ℕ) : Type 1 where
+  -- whatever report is read in what is printed for an accepted text, it says the same as that of the run of its schedule
   pub says : (text : List ℕ) (s : Schedule) → textAnswer text limit most ≡ accepted s
-      → (m u : ℕ) (b : Report) → outputOf text limit most ≡ reportText m u b → SaysTheSame (s .n) (s .t) (report fcwfa s) m u b
+      → (m u : ℕ) (b : Report) → outputOf P text limit most ≡ reportText m u b → SaysTheSame (s .n) (s .t) (report P s) m u b
   -- what is printed for a refused text is no report, and whatever number and line's number are read in it are those of the refusal
   pub told-apart : (text : List ℕ) (number k : ℕ) → textAnswer text limit most ≡ refused number k
-      → (m u : ℕ) (b : Report) → outputOf text limit most ≡ reportText m u b → ⊥
+      → (m u : ℕ) (b : Report) → outputOf P text limit most ≡ reportText m u b → ⊥
   pub refusal-says : (text : List ℕ) (number k : ℕ) → textAnswer text limit most ≡ refused number k
-      → (m j : ℕ) (line : List ℕ) → outputOf text limit most ≡ refusalText m j line → (number ≡ m) × (k ≡ j)
+      → (m j : ℕ) (line : List ℕ) → outputOf P text limit most ≡ refusalText m j line → (number ≡ m) × (k ≡ j)
+
+-- Under FCWFA: demand 3 of what is printed for an accepted text.
+pub record OutputDemand3 (limit most : ℕ) : Type 0 where
+  pub demand-3 : (text : List ℕ) (s : Schedule) → textAnswer text limit most ≡ accepted s → PrintsDemand3 s (outputOf fcwfa text limit most)
 
 -- The text of an accepted schedule of at most 32 processes has at most 2,048 bytes, so it is read back. Proved in proofs/Theorem.antt:
 -- `all-read-back : AllReadBack`.

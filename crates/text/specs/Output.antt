@@ -11,7 +11,7 @@ use Rattle.lines.specs.Lines.{lf, lineOf}
 use Rattle.fields.specs.Decimal.{letter, field}
 use Rattle.fields.specs.Fields.{space}
 use Rattle.schedule.specs.Schedule.{Schedule}
-use Rattle.run.specs.Protocol.{fcwfa}
+use Rattle.run.specs.Protocol.{Protocol}
 use Rattle.run.specs.Report.{Report, report}
 use Rattle.text.specs.Written.{eachLine}
 use Rattle.text.specs.Reading.{textAnswer}
@@ -62,9 +62,10 @@ reportText n t given =
 unfoldable pub refusalText : ℕ → ℕ → List ℕ → List ℕ
 refusalText number k line = refusedHeading ++ (field number space ++ (field k lf ++ (line ++ (lf ∷ []))))
 
-module _ (text : List ℕ) where
+module _ (P : Protocol) (text : List ℕ) where
+  -- what is printed for a text that these are the answer of: under any protocol
   abbrev pub printed : Answer Schedule ℕ → List ℕ
-  printed (accepted s) = reportText (s .n) (s .t) (report fcwfa s)
+  printed (accepted s) = reportText (s .n) (s .t) (report P s)
   printed (refused number k) = refusalText number k (lineOf k text)
 
   -- the whole output of a text, whatever its bytes and its length

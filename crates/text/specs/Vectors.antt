@@ -1,4 +1,4 @@
--- Texts with their whole output, written from document 01 by hand, and the statements that cover them. Proved in proofs/Vectors.antt:
+-- Texts with their whole output under FCWFA, written from document 01 by hand, and the statements that cover them. Proved in proofs/Vectors.antt:
 -- `text-vectors : TextVectors` and `length-vectors : LengthVectors`, each by computing what the definitions give.
 use Prim.Native.Nat.{ℕ}
 use Prim.Native.String.{String}
@@ -8,6 +8,7 @@ use lib.ListN.{length}
 use Rattle.laws.specs.Quoted.{quoted}
 use Rattle.lines.specs.Lines.{lf}
 use Rattle.sets.specs.Largest.{largest}
+use Rattle.run.specs.Protocol.{fcwfa}
 use Rattle.text.specs.Reading.{longest}
 use Rattle.text.specs.Output.{outputOf}
 
@@ -66,10 +67,10 @@ vectors =
 
 -- each of these texts prints its output
 abbrev pub TextVectors : Type 0
-TextVectors = map (λ v. outputOf (quoted (v .text)) largest longest) vectors ≡ map (λ v. quoted (v .output)) vectors
+TextVectors = map (λ v. outputOf fcwfa (quoted (v .text)) largest longest) vectors ≡ map (λ v. quoted (v .output)) vectors
 
 pub record LengthVectors : Type 0 where
   -- "At most 2,048 bytes? 8, line 0.": any text of 2,049 bytes
-  pub too-long : (text : List ℕ) → length text ≡ 2049 → outputOf text largest longest ≡ quoted "refused line\n8 0\n\n"
+  pub too-long : (text : List ℕ) → length text ≡ 2049 → outputOf fcwfa text largest longest ≡ quoted "refused line\n8 0\n\n"
   -- any text of 2,048 bytes gets past that question: here to line 1, which is empty
-  pub long : (rest : List ℕ) → length rest ≡ 2047 → outputOf (lf ∷ rest) largest longest ≡ quoted "refused line\n9 1\n\n"
+  pub long : (rest : List ℕ) → length rest ≡ 2047 → outputOf fcwfa (lf ∷ rest) largest longest ≡ quoted "refused line\n9 1\n\n"

@@ -6,6 +6,7 @@ use lib.ListN.{length, take}
 use Rattle.laws.specs.Answer.{accepted, refused}
 use Rattle.sets.specs.Largest.{largest}
 use Rattle.schedule.specs.Schedule.{scheduleOf}
+use Rattle.run.specs.Protocol.{fcwfa}
 use Rattle.text.specs.Reading.{longest, scheduleIn}
 use Rattle.forms.specs.Answers.{readingIs}
 use Rattle.reader.specs.Answers.{readAnswer}
@@ -80,7 +81,7 @@ returns c =
     let text = d .before .before .before .before .before .before .before .before .before .before .before .before .before .args .text .now in
     let long = sized (d .before .before .before .before .before) in
     let e = c .of-tables .ensures .0 ∙ ap outputIs (report-printed text _ _ _ (long .0) (long .1) (long .2) (accepts d) _ (schedule d)) in
-    (e, (counts (outputOf text largest longest) e (c .of-tables .ensures .1), keeps-demand-3 text _ e (c .of-tables .ensures .1)))
+    (e, (counts (outputOf fcwfa text largest longest) e (c .of-tables .ensures .1), keeps-demand-3 text _ e (c .of-tables .ensures .1)))
 
 returns-2 : tie.Need-returns-2
 returns-2 c =
@@ -88,7 +89,7 @@ returns-2 c =
     let text = d .before .before .before .before .before .before .before .before .before .before .before .before .before .args .text .now in
     let long = sized (d .before .before .before .before .before) in
     let e = c .refused .ensures .0 ∙ ap outputIs (refusal-printed text _ _ _ (long .0) (long .1) (long .2) (refuses d)) in
-    (e, (counts (outputOf text largest longest) e (c .refused .ensures .1), keeps-demand-3 text _ e (c .refused .ensures .1)))
+    (e, (counts (outputOf fcwfa text largest longest) e (c .refused .ensures .1), keeps-demand-3 text _ e (c .refused .ensures .1)))
 
 pub printed-spec : {M : Type 1} → statement M
 printed-spec =
