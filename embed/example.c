@@ -11,6 +11,15 @@
 #define N 4
 #define T 3
 
+_Static_assert(N <= FCWFA_LARGEST_N, "the cluster is not too large");
+_Static_assert(FCWFA_LARGEST_N <= 8 * sizeof(fcwfa_set), "a set has a bit for each process");
+
+/* The set of process i alone. */
+static fcwfa_set only(int i)
+{
+    return (fcwfa_set)1 << (i - 1);
+}
+
 /* What every member says in the round to come. */
 static int say_all(uint8_t states[N][FCWFA_STATE_BYTES], uint8_t row[N])
 {
@@ -49,11 +58,11 @@ static int play(const uint8_t votes[N])
 }
 
 /* Runs a schedule with all votes 1 in which process 1 crashes in this round with this reach. */
-static void simulate(uint8_t crash, uint32_t reach)
+static void simulate(uint8_t crash, fcwfa_set reach)
 {
     const uint8_t votes[N] = {1, 1, 1, 1};
     const uint8_t crashes[N] = {crash, 0, 0, 0};
-    const uint32_t reaches[N] = {reach, 0, 0, 0};
+    const fcwfa_set reaches[N] = {reach, 0, 0, 0};
     uint8_t decisions[N], rounds[N];
     size_t counts[FCWFA_COUNTS];
 
@@ -88,9 +97,9 @@ int main(void)
     if (!play(one_abort))
         return 1;
     puts("process 1 crashes in round 1 and reaches process 2 only");
-    simulate(1, 1u << 1);
+    simulate(1, only(2));
     puts("process 1 crashes in round 1 and reaches itself");
-    simulate(1, 1u << 0);
+    simulate(1, only(1));
     puts("a member with the number 5 of 4");
     printf("refused by question %d\n", fcwfa_open(N, T, 5, 1, state));
     return 0;

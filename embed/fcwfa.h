@@ -23,10 +23,16 @@
 extern "C" {
 #endif
 
+/* The largest number of processes. */
+#define FCWFA_LARGEST_N 32
+
+/* A set of processes, such as a reach: bit j - 1 stands for process j. */
+typedef uint32_t fcwfa_set;
+
 /* The work is done. */
 #define FCWFA_OK 0
 
-/* n, the number of processes, is not from 4 to 32. */
+/* n, the number of processes, is not from 4 to FCWFA_LARGEST_N. */
 #define FCWFA_REFUSED_N 1
 /* t, the number of crashes to bear, is not from 3 to n - 1. */
 #define FCWFA_REFUSED_T 2
@@ -123,16 +129,16 @@ uint8_t fcwfa_hear(uint8_t state[FCWFA_STATE_BYTES], const uint8_t *row,
 /*
  * Runs a whole cluster to its end. Entry i - 1 of each table is process i's:
  * its vote, 0 or 1; its crash round, 0 (never) or 1 to t + 1; and its reach,
- * the processes that still get the message of the crash round (bit j - 1 stands
- * for process j). Writes each process's decision (0, 1 or FCWFA_NO_DECISION)
- * and the round of it, and the four counts. All five tables are n long.
+ * the set of processes that still get the message of the crash round. Writes
+ * each process's decision (0, 1 or FCWFA_NO_DECISION) and the round of it, and
+ * the four counts. All five tables are n long.
  * Refusals, in this order: 1, 2, 3, then for each process in turn 4, 5, 6, and
  * last 7.
  */
 uint8_t fcwfa_simulate(size_t n, size_t t,
                        const uint8_t *votes, size_t votes_length,
                        const uint8_t *crashes, size_t crashes_length,
-                       const uint32_t *reaches, size_t reaches_length,
+                       const fcwfa_set *reaches, size_t reaches_length,
                        uint8_t *decisions, size_t decisions_length,
                        uint8_t *rounds, size_t rounds_length,
                        size_t counts[FCWFA_COUNTS]);

@@ -2,6 +2,9 @@
 //!
 //! The modules follow the document in its order. Processes and rounds are numbered from 1, as there; the entry of
 //! process i in a table stands at place i - 1.
+//!
+//! The largest cluster, the type of a set of processes and the longest text stand here and nowhere else; what follows
+//! from them is written in terms of them.
 
 pub mod demand3;
 pub mod member;
@@ -10,3 +13,15 @@ pub mod report;
 pub mod run;
 pub mod schedule;
 pub mod text;
+
+/// The largest number of processes.
+pub const LARGEST: usize = 32;
+
+/// A set of processes, such as a reach; bit i - 1 stands for process i.
+pub type Set = u32;
+
+/// The length of the longest text in bytes.
+pub const LONGEST: usize = 2048;
+
+// A set has a bit for each process, and two digits of a text are enough for its number.
+const _: () = assert!(LARGEST <= Set::BITS as usize && LARGEST <= 99);

@@ -4,11 +4,11 @@
 use std::io::{stdin, stdout, Read, Result, Write};
 
 use reference::report::answer;
-use reference::text::MAX_BYTES;
+use reference::LONGEST;
 
 fn main() -> Result<()> {
     // One byte more than the limit is enough to notice a text that is too long.
-    let mut text = Vec::with_capacity(MAX_BYTES + 1);
-    stdin().take(MAX_BYTES as u64 + 1).read_to_end(&mut text)?;
+    let mut text = Vec::with_capacity(LONGEST + 1);
+    stdin().take(LONGEST as u64 + 1).read_to_end(&mut text)?;
     stdout().write_all(&answer(&text))
 }

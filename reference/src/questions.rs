@@ -2,11 +2,10 @@
 
 use std::ops::RangeInclusive;
 
-/// The numbers of processes that are possible (document 01, "Cabinets, rounds, crashes").
-pub const SIZES: RangeInclusive<usize> = 4..=MAX_PROCESSES;
+use crate::LARGEST;
 
-/// The largest number of processes.
-pub const MAX_PROCESSES: usize = 32;
+/// The numbers of processes that are possible (document 01, "Cabinets, rounds, crashes").
+pub const SIZES: RangeInclusive<usize> = 4..=LARGEST;
 
 /// The smallest limit of crashes; the largest is n - 1.
 pub const MIN_CRASHES: usize = 3;
@@ -14,7 +13,7 @@ pub const MIN_CRASHES: usize = 3;
 /// The questions whose answer may be no, each with its number.
 #[derive(Clone, Copy, Debug, PartialEq, Eq, Hash, PartialOrd, Ord)]
 pub enum Refusal {
-    /// n from 4 to 32?
+    /// n from 4 to [`LARGEST`]?
     Processes = 1,
     /// t from 3 to n - 1?
     CrashLimit = 2,
@@ -28,7 +27,7 @@ pub enum Refusal {
     Reach = 6,
     /// f at most t?
     TooManyCrashes = 7,
-    /// At most 2,048 bytes?
+    /// At most [`LONGEST`](crate::LONGEST) bytes?
     TooLong = 8,
     /// Line of its form, nothing after the last?
     Form = 9,
@@ -66,7 +65,7 @@ pub fn ask(answer: bool, refusal: Refusal) -> Result<(), Refusal> {
     }
 }
 
-/// Questions 1 and 2: n from 4 to 32, t from 3 to n - 1.
+/// Questions 1 and 2: n from 4 to [`LARGEST`], t from 3 to n - 1.
 pub fn ask_sizes(n: usize, t: usize) -> Result<(), Refusal> {
     ask(SIZES.contains(&n), Refusal::Processes)?;
     ask((MIN_CRASHES..n).contains(&t), Refusal::CrashLimit)

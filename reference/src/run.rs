@@ -1,14 +1,15 @@
 //! The run of a schedule (document 01, "Who hears whom").
 
 use crate::member::{Member, NOTHING};
-use crate::questions::{Refusal, MAX_PROCESSES};
+use crate::questions::Refusal;
 use crate::schedule::{bit, Schedule};
+use crate::{Set, LARGEST};
 
 /// The decision of a process that has none.
 pub const NONE: u8 = 2;
 
 /// The rows of a round: row i - 1 is what process i hears.
-type Grid = [[u8; MAX_PROCESSES]; MAX_PROCESSES];
+type Grid = [[u8; LARGEST]; LARGEST];
 
 /// The report's counts.
 #[derive(Clone, Copy, Debug, PartialEq, Eq)]
@@ -32,8 +33,8 @@ pub struct Run {
     pub rounds: Vec<u8>,
     /// The counts.
     pub counts: Counts,
-    /// For each round the processes that complete it undecided, written like a reach.
-    pub undecided: Vec<u32>,
+    /// For each round the processes that complete it undecided.
+    pub undecided: Vec<Set>,
 }
 
 /// Runs a schedule to its end, or gives the number of its refusal. Each hearing asks its own questions too: document
@@ -101,7 +102,7 @@ fn opened(schedule: &Schedule) -> Vec<Member> {
 /// The rows of round r, all from the states at its start. The row of a process that doesn't complete the round is
 /// empty: it hears nothing.
 fn rows_of_round(schedule: &Schedule, members: &[Member], r: usize) -> Grid {
-    let mut grid = [[NOTHING; MAX_PROCESSES]; MAX_PROCESSES];
+    let mut grid = [[NOTHING; LARGEST]; LARGEST];
     for sender in members {
         let code = sender.says();
         for hearer in members {

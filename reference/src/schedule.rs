@@ -2,6 +2,7 @@
 //! "Cabinets, rounds, crashes", "Who hears whom" and the schedule part of "Questions before work").
 
 use crate::questions::{ask, ask_sizes, ask_vote, Refusal};
+use crate::Set;
 
 /// A schedule as given. The tables may have any length and any entries until the questions are answered.
 #[derive(Clone, Debug, PartialEq, Eq)]
@@ -14,17 +15,17 @@ pub struct Schedule {
     pub votes: Vec<u8>,
     /// For each process its crash round, 0 for never.
     pub crashes: Vec<u8>,
-    /// For each process who gets the message of its crash round; bit i - 1 stands for process i.
-    pub reaches: Vec<u32>,
+    /// For each process who gets the message of its crash round.
+    pub reaches: Vec<Set>,
 }
 
 /// The reach that names process i alone.
-pub fn bit(i: usize) -> u32 {
+pub fn bit(i: usize) -> Set {
     1 << (i - 1)
 }
 
-/// The reach that names each of the processes 1 to n, n at most 32.
-pub fn everyone(n: usize) -> u32 {
+/// The reach that names each of the processes 1 to n, n at most [`LARGEST`](crate::LARGEST).
+pub fn everyone(n: usize) -> Set {
     (1..=n).fold(0, |reach, i| reach | bit(i))
 }
 

@@ -3,9 +3,7 @@
 
 use crate::questions::{ask, ask_sizes, Refusal};
 use crate::schedule::{bit, Schedule};
-
-/// The largest text in bytes.
-pub const MAX_BYTES: usize = 2048;
+use crate::{Set, LONGEST};
 
 /// The names of line 1.
 pub const HEADING_SIZES: &str = "n t";
@@ -31,7 +29,7 @@ pub fn read(text: &[u8]) -> Result<Schedule, Refused> {
         rest: text,
         line: 0,
     };
-    reader.ask(ask(text.len() <= MAX_BYTES, Refusal::TooLong))?;
+    reader.ask(ask(text.len() <= LONGEST, Refusal::TooLong))?;
     reader.heading(HEADING_SIZES)?;
     let (n, t) = reader.sizes()?;
     reader.heading(HEADING_PROCESSES)?;
@@ -116,7 +114,7 @@ fn sizes_of_line(line: &[u8]) -> Option<(usize, usize)> {
 }
 
 /// Vote, crash round and reach of the line of process i, if it is of its form.
-fn process_of_line(line: &[u8], n: usize, i: usize) -> Option<(u8, u8, u32)> {
+fn process_of_line(line: &[u8], n: usize, i: usize) -> Option<(u8, u8, Set)> {
     let [own, vote, crash, reach] = fields(line)?;
     let of_its_form = usize::from(number(own)?) == i && vote.len() == 1 && reach.len() == n;
     if !of_its_form {
@@ -145,7 +143,7 @@ fn number(field: &[u8]) -> Option<u8> {
 }
 
 /// A reach of letters 0 and 1, place j for process j.
-fn reach_of_letters(letters: &[u8]) -> Option<u32> {
+fn reach_of_letters(letters: &[u8]) -> Option<Set> {
     let mut reach = 0;
     for (place, letter) in letters.iter().enumerate() {
         match letter {
@@ -169,8 +167,8 @@ pub fn line(text: &[u8], k: usize) -> &[u8] {
     }
 }
 
-/// The text of a schedule whose tables are n long, n at most 32. It is read back as the same schedule if that is
-/// accepted.
+/// The text of a schedule whose tables are n long, n at most [`LARGEST`](crate::LARGEST). It is read back as the same
+/// schedule if that is accepted.
 pub fn write(schedule: &Schedule) -> Vec<u8> {
     let (n, t) = (schedule.n, schedule.t);
     let mut text = format!("{HEADING_SIZES}\n{n} {t}\n{HEADING_PROCESSES}\n");

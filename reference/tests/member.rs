@@ -2,6 +2,7 @@
 
 use reference::member::Member;
 use reference::questions::Refusal;
+use reference::LARGEST;
 
 /// A member of n = 5, t = 4 with own number 2.
 fn member(round: usize, estimate: u8, decided: usize) -> Member {
@@ -71,7 +72,7 @@ fn states_out_of_range() {
             ..member(1, 1, 0)
         },
         Member {
-            n: 33,
+            n: LARGEST + 1,
             ..member(1, 1, 0)
         },
         member(1, 2, 0),

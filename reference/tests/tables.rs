@@ -3,6 +3,7 @@
 use reference::questions::Refusal;
 use reference::run::{simulate, Counts};
 use reference::schedule::{bit, everyone, Schedule};
+use reference::{Set, LARGEST};
 
 /// The answer of a call whose answer tables have these lengths; a refused call must leave them as they were.
 fn call(schedule: &Schedule, decisions: usize, rounds: usize) -> Result<Counts, Refusal> {
@@ -36,7 +37,7 @@ fn an_accepted_call_fills_the_answer_tables() {
 #[test]
 fn sizes_of_any_value_are_asked_first() {
     let mut schedule = Schedule::quiet(4, 3);
-    for n in [0, 3, 33, usize::MAX] {
+    for n in [0, 3, LARGEST + 1, usize::MAX] {
         schedule.n = n;
         assert_eq!(call(&schedule, 0, 0), Err(Refusal::Processes));
     }
@@ -50,7 +51,7 @@ fn sizes_of_any_value_are_asked_first() {
 #[test]
 fn each_of_the_five_tables_is_n_long() {
     let right = Schedule::quiet(4, 3);
-    for length in [0, 3, 5, 32] {
+    for length in [0, 3, 5, LARGEST] {
         assert_eq!(call(&right, length, 4), Err(Refusal::Tables));
         assert_eq!(call(&right, 4, length), Err(Refusal::Tables));
         let mut schedule = right.clone();
@@ -87,7 +88,7 @@ fn a_reach_names_only_others_of_1_to_n_and_nobody_without_a_crash() {
     schedule.crashes[1] = 2;
     schedule.reaches[1] = 0b11101;
     assert!(call(&schedule, 5, 5).is_ok());
-    for wrong in [0b00010, 0b100000, 1 << 31, u32::MAX] {
+    for wrong in [0b00010, 0b100000, bit(LARGEST), Set::MAX] {
         schedule.reaches[1] = wrong;
         refused(&schedule, Refusal::Reach);
     }
@@ -97,11 +98,11 @@ fn a_reach_names_only_others_of_1_to_n_and_nobody_without_a_crash() {
 }
 
 #[test]
-fn a_full_reach_of_32_processes() {
-    let mut schedule = Schedule::quiet(32, 31);
-    schedule.crashes[31] = 32;
-    schedule.reaches[31] = everyone(31);
-    assert!(call(&schedule, 32, 32).is_ok());
-    schedule.reaches[31] = everyone(32);
+fn a_full_reach_of_the_largest_cluster() {
+    let mut schedule = Schedule::quiet(LARGEST, LARGEST - 1);
+    schedule.crashes[LARGEST - 1] = LARGEST as u8;
+    schedule.reaches[LARGEST - 1] = everyone(LARGEST - 1);
+    assert!(call(&schedule, LARGEST, LARGEST).is_ok());
+    schedule.reaches[LARGEST - 1] = everyone(LARGEST);
     refused(&schedule, Refusal::Reach);
 }

@@ -3,6 +3,7 @@
 use reference::report::answer;
 use reference::schedule::Schedule;
 use reference::text::{line, read, write, Refused};
+use reference::{LARGEST, LONGEST};
 
 const CASE_A: &str =
     "n t\n4 3\nid vote crash reach\n1 1 0 0000\n2 1 0 0000\n3 1 0 0000\n4 1 0 0000\n";
@@ -66,7 +67,8 @@ fn numbers_have_one_or_two_digits_without_a_leading_zero() {
     assert_eq!(changed("4 3", "4 03"), is(9, 2, "4 03"));
     assert_eq!(changed("4 3", "4 003"), is(9, 2, "4 003"));
     assert_eq!(changed("4 3", "104 3"), is(9, 2, "104 3"));
-    assert_eq!(changed("4 3", "33 103"), is(9, 2, "33 103"));
+    let n_too_large = format!("{} 103", LARGEST + 1);
+    assert_eq!(changed("4 3", &n_too_large), is(9, 2, &n_too_large));
     assert_eq!(changed("4 3", "4"), is(9, 2, "4"));
     assert_eq!(changed("4 3", "4 3 3"), is(9, 2, "4 3 3"));
     assert_eq!(changed("4 3", "4 "), is(9, 2, "4 "));
@@ -80,7 +82,8 @@ fn numbers_have_one_or_two_digits_without_a_leading_zero() {
 #[test]
 fn line_2_after_its_form() {
     assert_eq!(changed("4 3", "3 9"), is(1, 2, "3 9"));
-    assert_eq!(changed("4 3", "33 3"), is(1, 2, "33 3"));
+    let n_too_large = format!("{} 3", LARGEST + 1);
+    assert_eq!(changed("4 3", &n_too_large), is(1, 2, &n_too_large));
     assert_eq!(changed("4 3", "4 2"), is(2, 2, "4 2"));
     assert_eq!(changed("4 3", "4 4"), is(2, 2, "4 4"));
 }
@@ -120,10 +123,10 @@ fn too_many_crashes_are_asked_last() {
 
 #[test]
 fn too_long_texts() {
-    assert_eq!(refused(&[b'\n'; 2048]), (9, 1, vec![]));
-    assert_eq!(refused(&[b'\n'; 2049]), (8, 0, vec![]));
+    assert_eq!(refused(&[b'\n'; LONGEST]), (9, 1, vec![]));
+    assert_eq!(refused(&[b'\n'; LONGEST + 1]), (8, 0, vec![]));
     let mut text = CASE_A.as_bytes().to_vec();
-    text.resize(2048, 0);
+    text.resize(LONGEST, 0);
     assert_eq!(refused(&text).0, 9);
     text.push(0);
     assert_eq!(refused(&text), (8, 0, vec![]));
@@ -139,12 +142,12 @@ fn lines_of_a_text() {
 
 #[test]
 fn the_longest_text_is_read_back() {
-    let mut schedule = Schedule::quiet(32, 31);
-    for i in 2..=32 {
-        schedule.crashes[i - 1] = 32;
+    let mut schedule = Schedule::quiet(LARGEST, LARGEST - 1);
+    for i in 2..=LARGEST {
+        schedule.crashes[i - 1] = LARGEST as u8;
         schedule.reaches[i - 1] = 1;
     }
     let text = write(&schedule);
-    assert!(text.len() <= 2048);
+    assert!(text.len() <= LONGEST);
     assert_eq!(read(&text), Ok(schedule));
 }

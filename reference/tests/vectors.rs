@@ -6,6 +6,7 @@ use std::path::{Path, PathBuf};
 use std::process::{Command, Stdio};
 
 use reference::report::answer;
+use reference::LONGEST;
 
 /// The paths of all texts; there are at least as many as when this was written.
 fn texts() -> Vec<PathBuf> {
@@ -57,7 +58,7 @@ fn all_texts_through_the_program() {
 
 #[test]
 fn a_text_of_any_length_through_the_program() {
-    for length in [2049, 5000, 1_000_000] {
+    for length in [LONGEST + 1, 3 * LONGEST, 1_000_000] {
         assert_eq!(program(&vec![b'n'; length]), b"refused line\n8 0\n\n");
     }
 }

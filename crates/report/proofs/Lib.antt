@@ -1,4 +1,1 @@
-pub mod Buffer
-pub mod Lengths
-pub mod Given
-pub mod Texts
+pub mod Decisions

@@ -1,44 +1,138 @@
-// From a schedule text to the bytes of its report (document 01, "Schedule text and report").
+// The lines of a report and of a refusal (document 01, "Schedule text and report"), written into a lent
+// buffer.
 //
-// `printed` takes any bytes and answers the whole output: the report of an accepted text, or the three
-// lines of a refusal. It has no `requires`.
-mod report_lines;
-mod whole;
-
+// `put_report` writes the report of given counts and tables, `put_refusal` the three lines of a refusal.
+// Both take anything, write what specs/Shown.antt and the definitions of the crate `text` give, and have no
+// `requires`. What is given is neither read nor run here.
 ghost use mathlib.Core.Path.{_≡_};
-ghost use Rattle.io.specs.Counts.{Counts};
-ghost use Rattle.sets.specs.Largest.{largest};
-ghost use Rattle.run.specs.Protocol.{fcwfa};
-ghost use Rattle.text.specs.Reading.{longest};
-ghost use Rattle.text.specs.Output.{outputOf};
-ghost use Rattle.report.specs.Answers.{outputIs, OutputKeepsDemand3};
-use forms::LONGEST;
-use forms::Reading;
-use sets::zero_bytes;
-use sets::zero_sets;
+ghost use mathlib.Core.List.{List};
+ghost use Prim.Native.Nat.{ℕ, _+_, _^_, _≤_, _<_};
+ghost use lib.ListN.{length};
+ghost use Rattle.simulator.specs.Answers.{givenBy};
+ghost use Rattle.text.specs.Output.{decisionLetter, decisionLine, decisionLines, countsLine, reportText, refusalText};
+ghost use Rattle.buffer.specs.Buffer.{Writes};
+ghost use Rattle.report.specs.Shown.{AllDecisions, areDecisions, shown};
+use buffer::put;
+use buffer::put_byte;
+use buffer::put_field;
+use fields::SPACE;
+use laws::bit;
+use lines::LF;
+use simulator::Counts;
 
-// How many bytes an output has at most. The longest is the refusal of a line that is as long as a text
-// may be: 64 more are enough for the lines before it.
-pub const OUTPUT: usize = LONGEST + 64;
+const DASH: u8 = 45;
 
-// The output's bytes with zeros after them, and how many they are.
-pub struct Output {
-    pub bytes: [u8; OUTPUT],
-    pub length: usize,
+// The letter of a decision that is 0 or 1, and `-` for 2, none.
+fn decision_letter(decision: u8) -> u8
+    requires one { ⌜ decision ≤ 2 ⌝ }
+    ensures is { λ r. ⌜ r ≡ decisionLetter decision ⌝ }
+{
+    if decision == 2 {
+        return DASH;
+    }
+    48 + decision
 }
 
-// The whole output for a text.
-pub fn printed(text: &[u8]) -> Output
-    ensures output { λ r. ⌜ r ≡ outputIs (outputOf fcwfa (now (text .entry)) largest longest) ⌝ }
-    ensures fits { λ r. ⌜ Counts (r .length) (r .bytes) ⌝ }
-    ensures demand_3 { λ r. ⌜ OutputKeepsDemand3 (now (text .entry)) r ⌝ }
+// Writes the line of the process at place i.
+fn put_decision(buffer: &mut [u8], at: usize, i: usize, decision: u8, round: u8) -> usize
+    requires small { ⌜ (i + 1 < 2 ^ 64) × (decision ≤ 2) ⌝ }
+    ensures written { λ r. ⌜ Writes (now (buffer .entry)) at (now (buffer .exit)) r (decisionLine i decision round) ⌝ }
 {
-    let mut votes = zero_bytes();
-    let mut crashes = zero_bytes();
-    let mut reaches = zero_sets();
-    let reading = reader::read(text, &mut votes, &mut crashes, &mut reaches);
-    match reading {
-        Reading::Read(n, t) => whole::of_tables(n, t, votes, crashes, reaches),
-        Reading::Refused(number, k) => whole::refused(text, number, k),
+    let own = put_field(buffer, at, i + 1, SPACE);
+    let decided = put_byte(buffer, own, decision_letter(decision));
+    let space = put_byte(buffer, decided, SPACE);
+    put_field(buffer, space, round as usize, LF)
+}
+
+// Writes the lines of the processes in order.
+fn put_decisions(buffer: &mut [u8], at: usize, decisions: &[u8], rounds: &[u8]) -> usize
+    requires size { ⌜ length (now rounds) ≡ length (now decisions) ⌝ }
+    requires values { ⌜ AllDecisions (now decisions) ⌝ }
+    ensures written { λ r. ⌜ Writes (now (buffer .entry)) at (now (buffer .exit)) r (decisionLines (length (now (decisions .entry))) (now (decisions .entry)) (now (rounds .entry))) ⌝ }
+{
+    let mut next = at;
+    let mut i: usize = 0;
+    while i < decisions.len() {
+        next = put_decision(buffer, next, i, decisions[i], rounds[i]);
+        i += 1;
     }
+    next
+}
+
+// Writes the line of n, t and the counts.
+fn put_counts(buffer: &mut [u8], at: usize, n: usize, t: usize, counts: Counts) -> usize
+    ensures written { λ r. ⌜ ((decisions rounds : List ℕ) → Writes (now (buffer .entry)) at (now (buffer .exit)) r (countsLine n t (givenBy counts decisions rounds))) ⌝ }
+{
+    let after_n = put_field(buffer, at, n, SPACE);
+    let after_t = put_field(buffer, after_n, t, SPACE);
+    let after_f = put_field(buffer, after_t, counts.f, SPACE);
+    let after_first = put_field(buffer, after_f, counts.first, SPACE);
+    let after_last = put_field(buffer, after_first, counts.last, SPACE);
+    put_field(buffer, after_last, counts.messages, LF)
+}
+
+// Whether each of these is a decision: 0, 1 or 2 for none.
+fn are_decisions(decisions: &[u8]) -> bool
+    ensures tested { λ r. ⌜ r ≡ areDecisions (now (decisions .entry)) ⌝ }
+{
+    let mut right: usize = 0;
+    let mut i: usize = 0;
+    while i < decisions.len() {
+        let decision = decisions[i];
+        right += bit(decision <= 2) as usize;
+        i += 1;
+    }
+    right == decisions.len()
+}
+
+// Writes the lines of the report of these counts and tables.
+fn put_lines(
+    buffer: &mut [u8],
+    at: usize,
+    t: usize,
+    counts: Counts,
+    decisions: &[u8],
+    rounds: &[u8],
+) -> usize
+    requires size { ⌜ length (now rounds) ≡ length (now decisions) ⌝ }
+    requires values { ⌜ AllDecisions (now decisions) ⌝ }
+    ensures written { λ r. ⌜ Writes (now (buffer .entry)) at (now (buffer .exit)) r (reportText (length (now (decisions .entry))) t (givenBy counts (now (decisions .entry)) (now (rounds .entry)))) ⌝ }
+{
+    let heading = put(buffer, at, b"n t f first last messages\n");
+    let values = put_counts(buffer, heading, decisions.len(), t, counts);
+    let names = put(buffer, values, b"id decision round\n");
+    put_decisions(buffer, names, decisions, rounds)
+}
+
+// Writes what the bench gives for a schedule of n processes that bears t crashes, from place `at` on.
+// Tables that no run gives, of two lengths or with what is no decision, are not written.
+pub fn put_report(
+    buffer: &mut [u8],
+    at: usize,
+    t: usize,
+    counts: Counts,
+    decisions: &[u8],
+    rounds: &[u8],
+) -> usize
+    ensures written { λ r. ⌜ Writes (now (buffer .entry)) at (now (buffer .exit)) r (shown t counts (now (decisions .entry)) (now (rounds .entry))) ⌝ }
+{
+    if rounds.len() != decisions.len() {
+        return at;
+    }
+    if !are_decisions(decisions) {
+        return at;
+    }
+    put_lines(buffer, at, t, counts, decisions, rounds)
+}
+
+// Writes the three lines of a refusal from place `at` on: its heading, the number and the line's number,
+// and the line.
+pub fn put_refusal(buffer: &mut [u8], at: usize, number: u8, k: usize, line: &[u8]) -> usize
+    ensures written { λ r. ⌜ Writes (now (buffer .entry)) at (now (buffer .exit)) r (refusalText number k (now (line .entry))) ⌝ }
+{
+    let heading = put(buffer, at, b"refused line\n");
+    let refused = put_field(buffer, heading, number as usize, SPACE);
+    let numbered = put_field(buffer, refused, k, LF);
+    let shown = put(buffer, numbered, line);
+    put_byte(buffer, shown, LF)
 }

@@ -7,7 +7,18 @@
 
 use std::fmt;
 
+/// The largest number of processes.
+pub const LARGEST: usize = 32;
+
+/// A set of processes, such as a reach; bit j - 1 stands for process j.
+pub type Set = u32;
+
+// A set has a bit for each process.
+const _: () = assert!(LARGEST <= Set::BITS as usize);
+
 mod foreign {
+    use super::Set;
+
     extern "C" {
         pub fn fcwfa_open(n: usize, t: usize, id: usize, vote: u8, state: *mut u8) -> u8;
         pub fn fcwfa_say(state: *const u8, code: *mut u8) -> u8;
@@ -19,7 +30,7 @@ mod foreign {
             votes_length: usize,
             crashes: *const u8,
             crashes_length: usize,
-            reaches: *const u32,
+            reaches: *const Set,
             reaches_length: usize,
             decisions: *mut u8,
             decisions_length: usize,
@@ -60,7 +71,7 @@ pub struct Member {
 }
 
 impl Member {
-    /// A new member with its vote. Refusals: 1, 2, 10, 4.
+    /// A new member of a cluster of n, from 4 to [`LARGEST`], with its vote. Refusals: 1, 2, 10, 4.
     pub fn open(n: usize, t: usize, id: usize, vote: u8) -> Result<Member, Refusal> {
         let mut bytes = [0; 6];
         // SAFETY: the pointer is good for the six bytes that the function writes.
@@ -116,8 +127,8 @@ pub struct Counts {
     pub messages: usize,
 }
 
-/// Runs a whole cluster to its end. Entry i - 1 of each table is process i's; a reach has bit j - 1 for process j. `decisions` gets 0, 1 or 2
-/// (none) for each process, and `rounds` the round of it, 0 for none.
+/// Runs a whole cluster of n, from 4 to [`LARGEST`], to its end. Entry i - 1 of each table is process i's; a reach is a [`Set`].
+/// `decisions` gets 0, 1 or 2 (none) for each process, and `rounds` the round of it, 0 for none.
 ///
 /// Refusals: 1, 2, 3 (all five tables are n long), 4, 5, 6 for each process in turn, 7; the two tables are then as they were.
 pub fn simulate(
@@ -125,7 +136,7 @@ pub fn simulate(
     t: usize,
     votes: &[u8],
     crashes: &[u8],
-    reaches: &[u32],
+    reaches: &[Set],
     decisions: &mut [u8],
     rounds: &mut [u8],
 ) -> Result<Counts, Refusal> {

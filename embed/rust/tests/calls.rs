@@ -1,5 +1,5 @@
 //! The library as a Rust program uses it.
-use fcwfa::{simulate, Counts, Member, Refusal};
+use fcwfa::{simulate, Counts, Member, Refusal, Set, LARGEST};
 
 /// Lets members with these votes exchange rows, without a crash, until all have stopped.
 fn play(votes: [u8; 4]) -> Result<Vec<Option<(u8, u8)>>, Refusal> {
@@ -71,7 +71,7 @@ fn a_schedule_is_run_to_its_end() {
 #[test]
 fn a_refused_schedule_changes_nothing() {
     let (mut decisions, mut rounds) = ([9; 4], [9; 4]);
-    let mut run = |t, votes: &[u8], crashes: &[u8], reaches: &[u32]| {
+    let mut run = |t, votes: &[u8], crashes: &[u8], reaches: &[Set]| {
         simulate(4, t, votes, crashes, reaches, &mut decisions, &mut rounds)
     };
     assert_eq!(run(4, &[1; 4], &[0; 4], &[0; 4]), Err(Refusal(2)));
@@ -82,4 +82,38 @@ fn a_refused_schedule_changes_nothing() {
     assert_eq!(run(3, &[1; 4], &[1; 4], &[1; 4]), Err(Refusal(6)));
     assert_eq!(run(3, &[1; 4], &[1; 4], &[0; 4]), Err(Refusal(7)));
     assert_eq!((decisions, rounds), ([9; 4], [9; 4]));
+}
+
+/// Process 2 of n crashes in round 1 and reaches the last process of the largest cluster alone.
+fn one_crash(n: usize) -> Result<Counts, Refusal> {
+    let (votes, mut crashes, mut reaches) = (vec![1; n], vec![0; n], vec![0; n]);
+    crashes[1] = 1;
+    reaches[1] = 1 << (LARGEST - 1);
+    let (mut decisions, mut rounds) = (vec![9; n], vec![9; n]);
+    simulate(
+        n,
+        3,
+        &votes,
+        &crashes,
+        &reaches,
+        &mut decisions,
+        &mut rounds,
+    )
+}
+
+#[test]
+fn the_largest_cluster_runs_and_a_larger_one_is_refused() {
+    let (n, larger) = (LARGEST, LARGEST + 1);
+    assert!(Member::open(n, n - 1, n, 1).is_ok());
+    assert_eq!(Member::open(larger, n - 1, n, 1), Err(Refusal(1)));
+    assert_eq!(
+        one_crash(n),
+        Ok(Counts {
+            f: 1,
+            first: 1,
+            last: 3,
+            messages: 4 * n * (n - 1) + 1
+        })
+    );
+    assert_eq!(one_crash(larger), Err(Refusal(1)));
 }

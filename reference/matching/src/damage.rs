@@ -1,15 +1,17 @@
 //! Damages to the text of an accepted schedule, by name. A damaged text may by chance be accepted still. Each damage
 //! works on any bytes, so that several can follow each other; what isn't there any more stays as it is.
 
+use reference::questions::SIZES;
 use reference::schedule::Schedule;
-use reference::text::{write, HEADING_PROCESSES, HEADING_SIZES, MAX_BYTES};
+use reference::text::{write, HEADING_PROCESSES, HEADING_SIZES};
+use reference::LONGEST;
 
 use crate::random::Random;
 
 /// How a text is damaged; the schedule is the one it was written from.
 type Damage = fn(&mut Random, &Schedule, &mut Vec<u8>);
 
-/// The damages and their names.
+/// The damages and their names, in which LONGEST stands for its number.
 pub const DAMAGES: [(&str, Damage); 34] = [
     ("byte changed", |random, _, text| byte_changed(random, text)),
     ("digit changed", |random, _, text| {
@@ -41,9 +43,9 @@ pub const DAMAGES: [(&str, Damage); 34] = [
     ("f above t", too_many_crashes),
     ("f above t and bytes after the end", too_many_and_more),
     ("bytes after the end", bytes_after_the_end),
-    ("filled up to 2,048 bytes", filled),
-    ("2,049 bytes", one_byte_too_long),
-    ("longer than 2,049 bytes", too_long),
+    ("filled up to LONGEST bytes", filled),
+    ("LONGEST + 1 bytes", one_byte_too_long),
+    ("longer than LONGEST + 1 bytes", too_long),
     ("empty or nearly so", empty),
     ("any bytes", any_bytes),
     ("two or three damages", several),
@@ -284,7 +286,7 @@ fn outside(random: &mut Random, low: usize, high: usize) -> usize {
 }
 
 fn n_out_of_range(random: &mut Random, _: &Schedule, text: &mut Vec<u8>) {
-    let n = outside(random, 4, 32);
+    let n = outside(random, *SIZES.start(), *SIZES.end());
     write_field(text, 2, 0, n);
     if random.one_in(2) {
         let t = random.below(100);
@@ -402,20 +404,20 @@ fn fill(random: &mut Random, text: &mut Vec<u8>, length: usize) {
 
 fn filled(random: &mut Random, _: &Schedule, text: &mut Vec<u8>) {
     let length = match random.below(2) {
-        0 => MAX_BYTES,
-        _ => random.within(MAX_BYTES - 20..=MAX_BYTES),
+        0 => LONGEST,
+        _ => random.within(LONGEST - 20..=LONGEST),
     };
     fill(random, text, length);
 }
 
 fn one_byte_too_long(random: &mut Random, _: &Schedule, text: &mut Vec<u8>) {
-    fill(random, text, MAX_BYTES + 1);
+    fill(random, text, LONGEST + 1);
 }
 
 fn too_long(random: &mut Random, _: &Schedule, text: &mut Vec<u8>) {
     let length = match random.below(2) {
-        0 => random.within(MAX_BYTES + 2..=MAX_BYTES + 20),
-        _ => random.within(MAX_BYTES + 2..=5 * MAX_BYTES),
+        0 => random.within(LONGEST + 2..=LONGEST + 20),
+        _ => random.within(LONGEST + 2..=5 * LONGEST),
     };
     fill(random, text, length);
 }
@@ -428,7 +430,7 @@ fn empty(random: &mut Random, _: &Schedule, text: &mut Vec<u8>) {
 
 fn any_bytes(random: &mut Random, _: &Schedule, text: &mut Vec<u8>) {
     let length = match random.below(4) {
-        0 => random.below(MAX_BYTES + 100),
+        0 => random.below(LONGEST + 100),
         _ => random.below(40),
     };
     *text = (0..length).map(|_| random.byte()).collect();

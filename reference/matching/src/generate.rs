@@ -4,6 +4,7 @@ use std::ops::RangeInclusive;
 
 use reference::questions::{MIN_CRASHES, SIZES};
 use reference::schedule::{bit, everyone, Schedule};
+use reference::{Set, LARGEST};
 
 use crate::random::Random;
 
@@ -31,7 +32,10 @@ pub const FAMILIES: [(&str, Make); 16] = [
 ];
 
 /// A way to choose the reach of process i among n processes.
-type Reach = fn(&mut Random, usize, usize) -> u32;
+type Reach = fn(&mut Random, usize, usize) -> Set;
+
+/// How many sizes n and t there are: one with n = 4, two with n = 5, and so on up to the largest n.
+pub const SIZES_COUNT: usize = (LARGEST - MIN_CRASHES) * (LARGEST - MIN_CRASHES + 1) / 2;
 
 /// All sizes n and t of accepted schedules.
 pub fn sizes() -> Vec<(usize, usize)> {
@@ -78,25 +82,25 @@ fn mixed_votes(random: &mut Random, schedule: &mut Schedule) {
     }
 }
 
-fn empty_reach(_: &mut Random, _: usize, _: usize) -> u32 {
+fn empty_reach(_: &mut Random, _: usize, _: usize) -> Set {
     0
 }
 
-fn full_reach(_: &mut Random, n: usize, i: usize) -> u32 {
+fn full_reach(_: &mut Random, n: usize, i: usize) -> Set {
     everyone(n) & !bit(i)
 }
 
 /// The reach that names one process other than i.
-fn single_reach(random: &mut Random, n: usize, i: usize) -> u32 {
+fn single_reach(random: &mut Random, n: usize, i: usize) -> Set {
     bit(other(random, n, i))
 }
 
-fn all_but_one_reach(random: &mut Random, n: usize, i: usize) -> u32 {
+fn all_but_one_reach(random: &mut Random, n: usize, i: usize) -> Set {
     full_reach(random, n, i) & !single_reach(random, n, i)
 }
 
 /// A reach of any kind.
-fn any_reach(random: &mut Random, n: usize, i: usize) -> u32 {
+fn any_reach(random: &mut Random, n: usize, i: usize) -> Set {
     let kinds: [Reach; 4] = [empty_reach, single_reach, all_but_one_reach, full_reach];
     match random.below(8) {
         kind if kind < kinds.len() => kinds[kind](random, n, i),
@@ -287,7 +291,7 @@ mod tests {
 
     #[test]
     fn every_family_is_accepted_at_every_size() {
-        assert_eq!(sizes().len(), 435);
+        assert_eq!(sizes().len(), SIZES_COUNT);
         for (family, (name, _)) in FAMILIES.iter().enumerate() {
             for schedule in of_family(family) {
                 assert_eq!(schedule.ask(), Ok(()), "{name}: {schedule:?}");
@@ -312,7 +316,10 @@ mod tests {
             last as usize == bound(schedule)
         };
         let count = of_family(4).iter().filter(|s| late(s)).count();
-        assert!(count > 200, "only {count} of 435");
+        assert!(
+            count * 100 > SIZES_COUNT * 46,
+            "only {count} of {SIZES_COUNT}"
+        );
     }
 
     #[test]
@@ -321,7 +328,8 @@ mod tests {
             let (_, schedule) = of_case(&mut Random::of_case(1, 9, case), case);
             (schedule.n, schedule.t)
         };
-        let mut met: Vec<(usize, usize)> = (435..870).map(size).collect();
+        let count = SIZES_COUNT as u64;
+        let mut met: Vec<(usize, usize)> = (count..2 * count).map(size).collect();
         met.sort_unstable();
         assert_eq!(met, sizes());
     }

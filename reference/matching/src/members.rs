@@ -2,6 +2,7 @@
 
 use reference::member::{Member, DECIDED_0, DECIDED_1, ESTIMATE_0, ESTIMATE_1, NOTHING};
 use reference::questions::Refusal;
+use reference::LARGEST;
 
 use crate::generate::sizes;
 use crate::outcome::{share, Outcome};
@@ -197,6 +198,9 @@ fn say_in_any_state(random: &mut Random, member: Member) -> Call {
     }
 }
 
+/// The largest number in a state in range: the round t + 2 at the largest n and t.
+const MAX_IN_STATE: usize = LARGEST + 1;
+
 /// A state in range with some bytes changed, by little or to anything.
 fn any_state(random: &mut Random, member: Member) -> State {
     let mut state = member.to_bytes();
@@ -204,7 +208,7 @@ fn any_state(random: &mut Random, member: Member) -> State {
         let place = random.below(state.len());
         state[place] = match random.below(4) {
             0 => random.byte(),
-            1 => random.below(35) as u8,
+            1 => random.within(0..=MAX_IN_STATE + 1) as u8,
             2 => state[place].wrapping_add(1),
             _ => state[place].wrapping_sub(1),
         };
@@ -283,11 +287,14 @@ fn hear_several(random: &mut Random, member: Member) -> Call {
     call
 }
 
+/// The longest row that is heard: more than twice as long as a row of the largest cluster.
+const MAX_ROW: usize = 2 * LARGEST + 5;
+
 fn other_length(random: &mut Random, row: &mut Vec<u8>) {
     let length = match random.below(3) {
         0 => row.len() + 1,
         1 => row.len().saturating_sub(1),
-        _ => random.below(70),
+        _ => random.within(0..=MAX_ROW),
     };
     row.resize(length, ESTIMATE_1);
 }

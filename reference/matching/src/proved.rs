@@ -5,6 +5,9 @@ use reference::schedule::Schedule;
 
 use crate::members::{Machine, State};
 
+// The libraries and the reference take the same clusters. Their sets have the same type, or no reach could be passed.
+const _: () = assert!(fcwfa::LARGEST == reference::LARGEST);
+
 /// The call on tables.
 pub fn simulate(
     schedule: &Schedule,

@@ -2,6 +2,8 @@
 
 use std::ops::RangeInclusive;
 
+use reference::{Set, LARGEST};
+
 /// The generator.
 #[derive(Clone, Debug)]
 pub struct Random {
@@ -28,9 +30,9 @@ impl Random {
         bits ^ (bits >> 31)
     }
 
-    /// 32 bits.
-    pub fn bits(&mut self) -> u32 {
-        (self.next() >> 32) as u32
+    /// Any set: the highest of the next 64 bits.
+    pub fn bits(&mut self) -> Set {
+        (self.next() >> (u64::BITS - Set::BITS)) as Set
     }
 
     /// Any byte.
@@ -38,12 +40,12 @@ impl Random {
         (self.next() >> 56) as u8
     }
 
-    /// Any number at all, small ones and the largest ones often.
+    /// Any number at all; small ones, sizes of a cluster with a higher bit, and the largest ones often.
     pub fn any_size(&mut self) -> usize {
         match self.below(4) {
             0 => usize::MAX - self.below(3),
             1 => self.next() as usize,
-            2 => (1 << self.below(usize::BITS as usize)) + self.below(64),
+            2 => (1 << self.below(usize::BITS as usize)) + self.below(2 * LARGEST),
             _ => self.below(300),
         }
     }
@@ -115,9 +117,9 @@ mod tests {
 
     #[test]
     fn an_order_has_each_number_once() {
-        let mut order = Random::of_case(1, 0, 0).order(32);
-        assert_ne!(order, (1..=32).collect::<Vec<usize>>());
+        let mut order = Random::of_case(1, 0, 0).order(LARGEST);
+        assert_ne!(order, (1..=LARGEST).collect::<Vec<usize>>());
         order.sort_unstable();
-        assert_eq!(order, (1..=32).collect::<Vec<usize>>());
+        assert_eq!(order, (1..=LARGEST).collect::<Vec<usize>>());
     }
 }

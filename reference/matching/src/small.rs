@@ -3,6 +3,7 @@
 use reference::questions::Refusal;
 use reference::run::run;
 use reference::schedule::Schedule;
+use reference::Set;
 
 use crate::demands;
 use crate::outcome::{share, Outcome};
@@ -15,7 +16,7 @@ const N: usize = 4;
 const T: usize = 3;
 
 /// Vote, crash round and reach of one process.
-type Choice = (u8, u8, u32);
+type Choice = (u8, u8, Set);
 
 /// Compares every `step`-th accepted schedule, so each one if `step` is 1.
 pub fn compare(step: usize, simulate: Simulate) -> Outcome {

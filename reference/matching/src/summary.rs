@@ -1,5 +1,7 @@
 //! The sum of all parts and the exit code.
 
+use reference::LONGEST;
+
 use crate::outcome::{Kind, Outcome};
 
 /// What all parts found together.
@@ -59,7 +61,7 @@ pub fn print_part(heading: &str, names: &[&str], outcome: &Outcome, numbers: &[u
         });
     println!("{heading}: {}", words(&total));
     for (name, kind) in names.iter().zip(&outcome.kinds) {
-        println!("  {name}: {}", words(kind));
+        println!("  {}: {}", spelled(name), words(kind));
     }
     if !numbers.is_empty() {
         let met = |number: &u8| format!("{number} met {}", outcome.met[usize::from(*number)]);
@@ -76,6 +78,20 @@ pub fn print_part(heading: &str, names: &[&str], outcome: &Outcome, numbers: &[u
     );
     for (case, difference) in &outcome.differences {
         println!("DIFFERENCE in case {case}\n{difference}");
+    }
+}
+
+/// A name as it is printed: LONGEST and LONGEST + 1 are numbers there.
+pub fn spelled(name: &str) -> String {
+    name.replace("LONGEST + 1", &with_commas(LONGEST + 1))
+        .replace("LONGEST", &with_commas(LONGEST))
+}
+
+/// A number with a comma between thousands.
+fn with_commas(number: usize) -> String {
+    match number {
+        0..=999 => number.to_string(),
+        _ => format!("{},{:03}", with_commas(number / 1_000), number % 1_000),
     }
 }
 

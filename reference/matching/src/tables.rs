@@ -3,6 +3,7 @@
 use reference::questions::Refusal;
 use reference::run::{self, Counts};
 use reference::schedule::{bit, Schedule};
+use reference::LARGEST;
 
 use crate::generate::any;
 use crate::outcome::{share, Outcome};
@@ -128,9 +129,12 @@ fn any_n(random: &mut Random, call: &mut Call) {
     call.schedule.n = random.any_size();
 }
 
-/// n of 0 to 40, and tables that are n long: mostly in range.
+/// The longest table that is lent: somewhat longer than the tables of the largest cluster.
+const MAX_TABLE: usize = LARGEST + 8;
+
+/// n of 0 to MAX_TABLE, and tables that are n long: mostly in range.
 fn other_n_and_tables(random: &mut Random, call: &mut Call) {
-    let n = random.within(0..=40);
+    let n = random.within(0..=MAX_TABLE);
     call.schedule.n = n;
     for table in 0..5 {
         resize(call, table, n);
@@ -165,7 +169,7 @@ fn one_table(random: &mut Random, call: &mut Call) {
         0 => right + 1,
         1 => right.saturating_sub(1),
         2 => 0,
-        _ => random.within(0..=40),
+        _ => random.within(0..=MAX_TABLE),
     };
     resize(call, random.below(5), length);
 }
@@ -197,15 +201,15 @@ fn crash_above_last_round(random: &mut Random, call: &mut Call) {
 /// A reach that names its own process, or a process above n, or somebody without a crash.
 fn wrong_reach(random: &mut Random, call: &mut Call) {
     let schedule = &mut call.schedule;
-    let length = schedule.reaches.len().min(32);
+    let length = schedule.reaches.len().min(LARGEST);
     let Some(place) = random.place(length) else {
         return;
     };
     schedule.reaches[place] |= match random.below(4) {
         0 => bit(place + 1),
-        1 => bit((schedule.n % 32) + 1),
-        2 => bit(random.within(1..=32)),
-        _ => bit(32),
+        1 => bit((schedule.n % LARGEST) + 1),
+        2 => bit(random.within(1..=LARGEST)),
+        _ => bit(LARGEST),
     };
 }
 

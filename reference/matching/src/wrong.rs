@@ -5,7 +5,8 @@ use reference::questions::Refusal;
 use reference::report::{answer, refusal, report};
 use reference::run::{play, Counts, Run};
 use reference::schedule::{everyone, Schedule};
-use reference::text::{line, read, Refused, MAX_BYTES};
+use reference::text::{line, read, Refused};
+use reference::{LARGEST, LONGEST};
 
 use crate::members::{ByReference, Machine, State};
 use crate::tables::by_reference;
@@ -148,10 +149,11 @@ pub fn highest_first(_: &Schedule, run: &mut Run) {
     run.counts.first = highest.map_or(0, |place| place + 1);
 }
 
-/// A report with one byte changed, when 32 processes run.
+/// A report with one byte changed, when the largest cluster runs.
 pub fn changed_byte(text: &[u8]) -> Result<Vec<u8>, String> {
     let mut printed = answer(text);
-    if printed.starts_with(b"n t f first last messages\n32 ") {
+    let start = format!("n t f first last messages\n{LARGEST} ");
+    if printed.starts_with(start.as_bytes()) {
         let last = printed.len() - 2;
         printed[last] ^= 1;
     }
@@ -199,10 +201,10 @@ pub fn crashes_before_end(text: &[u8], refused: Refused) -> Vec<u8> {
     }
 }
 
-/// A text of 2,049 bytes is read.
+/// A text of LONGEST + 1 bytes is read.
 pub fn long_text(text: &[u8]) -> Result<Vec<u8>, String> {
     Ok(match text.len() {
-        length if length == MAX_BYTES + 1 => answer(&text[..MAX_BYTES]),
+        length if length == LONGEST + 1 => answer(&text[..LONGEST]),
         _ => answer(text),
     })
 }
@@ -256,7 +258,7 @@ pub fn reach_above_n(
     rounds: &mut [u8],
 ) -> Result<Counts, u8> {
     let mut schedule = schedule.clone();
-    let named = everyone(schedule.n.min(32));
+    let named = everyone(schedule.n.min(LARGEST));
     for reach in &mut schedule.reaches {
         *reach &= named;
     }

@@ -1,18 +1,18 @@
 //! A limit to measure against: the run of a schedule with sets of processes held as words.
 //!
 //! It keeps no member and forms no row. Who is alive, who has estimate 0 and who decided are words; what a process hears is a word, and its
-//! rules are masks and counts of ones. It stops as soon as nobody speaks. It asks the same questions and answers the same as the call on
-//! tables; `speed` compares all answers with the reference's before it measures anything.
+//! rules are masks and counts of ones. Bit i of a word stands for the process at place i. It stops as soon as nobody speaks. It asks the
+//! same questions and answers the same as the call on tables; `speed` compares all answers with the reference's before it measures
+//! anything.
 
+use reference::questions::SIZES;
 use reference::run::{Counts, NONE};
 use reference::schedule::Schedule;
+use reference::{Set, LARGEST};
 
-/// A set of processes: bit i stands for the process at place i.
-type Set = u32;
-
-/// The set of the first n processes.
+/// The set of the first n processes, n at least 1.
 fn first(n: usize) -> Set {
-    u32::MAX >> (32 - n)
+    Set::MAX >> (Set::BITS as usize - n)
 }
 
 /// The set without its lowest process, and the place of that one.
@@ -27,7 +27,7 @@ fn take_lowest(set: &mut Set) -> Option<usize> {
 
 /// The number of the first question whose answer is no, or 0.
 fn question(s: &Schedule, decisions: usize, rounds: usize) -> u8 {
-    if !(4..=32).contains(&s.n) {
+    if !SIZES.contains(&s.n) {
         return 1;
     }
     if !(3..s.n).contains(&s.t) {
@@ -172,7 +172,8 @@ pub fn simulate(s: &Schedule, decisions: &mut [u8], rounds: &mut [u8]) -> Result
     if number != 0 {
         return Err(number);
     }
-    let mut crashing = [0; 34];
+    // Who crashes in each round, with 0 for never; t + 1 is at most the largest n.
+    let mut crashing = [0; LARGEST + 1];
     for (place, &crash) in s.crashes.iter().enumerate() {
         crashing[usize::from(crash)] |= 1 << place;
     }

@@ -1,21 +1,26 @@
 //! What is measured, a table each.
 
 use std::hint::black_box;
+use std::iter::successors;
 
 use matching::proved;
 use matching::tables::{by_reference, Simulate};
+use reference::questions::SIZES;
 use reference::schedule::Schedule;
+use reference::LARGEST;
 
 use crate::limit;
 use crate::measure::fastest;
 use crate::schedules::{hearings, spread};
 
-/// The sizes that are measured.
-const SIZES: [usize; 4] = [4, 8, 16, 32];
+/// The sizes that are measured: the smallest, and each twice the one before, as far as they are possible.
+fn sizes() -> impl Iterator<Item = usize> {
+    successors(Some(*SIZES.start()), |n| Some(2 * n)).take_while(|n| SIZES.contains(n))
+}
 
 /// Runs every schedule once.
 fn run_all(schedules: &[Schedule], simulate: Simulate) {
-    let (mut decisions, mut rounds) = ([0; 32], [0; 32]);
+    let (mut decisions, mut rounds) = ([0; LARGEST], [0; LARGEST]);
     for schedule in schedules {
         let n = schedule.n;
         let answer = simulate(black_box(schedule), &mut decisions[..n], &mut rounds[..n]);
@@ -41,7 +46,7 @@ pub fn by_size() {
     println!("a run, over the full spread of schedules (ns)");
     println!("   n   proved  reference    limit  reference/proved  proved/limit  proved runs/s  proved, from n/2");
     let mut before = None;
-    for n in SIZES {
+    for n in sizes() {
         let [proved, reference, limit] = times(&spread(n));
         let growth = before.map_or(String::new(), |half: f64| format!("{:.2}", proved / half));
         println!(
@@ -54,14 +59,14 @@ pub fn by_size() {
     }
 }
 
-/// A cluster of 32 that stops after round 3, set up to bear more and more crashes: more rounds are allowed, and none of them is played.
+/// The largest cluster, which stops after round 3, set up to bear more and more crashes: more rounds are allowed, and none is played.
 pub fn by_crashes_borne() {
     println!();
-    println!("a run of n = 32, no crash: every process has stopped after round 3 (ns)");
+    println!("a run of n = {LARGEST}, no crash: every process has stopped after round 3 (ns)");
     println!("   t   proved  reference    limit  proved, to t = 3");
     let mut first = None;
-    for t in [3, 7, 15, 31] {
-        let [proved, reference, limit] = times(&vec![Schedule::quiet(32, t); 1_024]);
+    for t in sizes().map(|n| n - 1) {
+        let [proved, reference, limit] = times(&vec![Schedule::quiet(LARGEST, t); 1_024]);
         let growth = proved / *first.get_or_insert(proved);
         println!("{t:4} {proved:8.0} {reference:10.0} {limit:8.0} {growth:17.2}");
     }
@@ -72,7 +77,7 @@ pub fn by_row() {
     println!();
     println!("a row heard by a member (ns)");
     println!("   n   proved  reference  reference/proved     rows");
-    for n in SIZES {
+    for n in sizes() {
         let hearings = hearings(&spread(n)[..256]);
         let [proved, reference] = fastest(
             hearings.len(),

@@ -1,0 +1,69 @@
+-- What an accepted schedule's run gives: its counts and tables are those of the report, each decision is 0, 1 or 2, and printing what is given prints
+-- the report. Assumes nothing.
+use mathlib.Core.Path.{_≡_, ap, ap₂, _∙_}
+use mathlib.Core.Logic.{inl, inr}
+use mathlib.Core.List.{List}
+use mathlib.Core.Bool.{Bool, true}
+use Prim.Native.Nat.{ℕ, _≤_}
+use native.Mathlib.Omega.{arith}
+use borrow.Author.Tests.{eqb-true, eqb-false}
+use lib.ListN.{length, getD}
+use lib.Dec.{eqb}
+use Rattle.laws.specs.Answer.{Answer, accepted, placeAfter}
+use Rattle.laws.proofs.Test.{true-or-false}
+use Rattle.laws.proofs.Lists.{read-same}
+use Rattle.laws.proofs.Answer.{answer-accepted, valueOr, place-given}
+use Rattle.schedule.specs.Schedule.{Schedule}
+use Rattle.schedule.specs.Questions.{question}
+use Rattle.schedule.proofs.Accepted.{question-accepted}
+use Rattle.run.specs.Protocol.{fcwfa}
+use Rattle.run.specs.Report.{Report, report}
+use Rattle.run.proofs.Theorem.{accepted-run}
+use Rattle.simulator.specs.declared.Counts.{Counts}
+use Rattle.simulator.specs.Answers.{countsOf, givenBy, simulateQuestion, simulateAnswer}
+use Rattle.text.specs.Output.{reportText}
+use Rattle.report.specs.Shown.{areDecisions, AllDecisions}
+use Rattle.report.proofs.Decisions as Decisions
+
+module _ (limit : ℕ) (s : Schedule) (decisions rounds : List ℕ) (passed : simulateQuestion limit s decisions rounds ≡ 0) where
+  pub counts-given : simulateAnswer limit s decisions rounds ≡ accepted (countsOf (report fcwfa s))
+  unfolding simulateAnswer
+  counts-given = answer-accepted _ _ _ passed
+
+  pub table-given : (given lent : List ℕ) → placeAfter (simulateQuestion limit s decisions rounds) given lent ≡ given
+  table-given given lent = place-given _ given lent passed
+
+module _ (s : Schedule) (limit : ℕ) (answers : Bool) (passed : question s limit answers ≡ 0) where
+  pub n-small : s .n ≤ limit
+  n-small = question-accepted s limit answers passed .n-high
+
+  pub decisions-long : length (report fcwfa s .decisions) ≡ s .n
+  decisions-long = accepted-run s limit answers passed .reported .decisions-long
+
+  pub rounds-long : length (report fcwfa s .rounds) ≡ s .n
+  rounds-long = accepted-run s limit answers passed .reported .rounds-long
+
+  each-decision : AllDecisions (report fcwfa s .decisions)
+  each-decision i below =
+      let reported = accepted-run s limit answers passed .reported in
+      let long = reported .decisions-long in
+      let round = getD (report fcwfa s .rounds) i 0 in
+      let same = read-same (report fcwfa s .decisions) 0 2 i below in
+      elim (true-or-false (eqb round 0)) [
+        | inl z ↦ let none : getD (report fcwfa s .decisions) i 2 ≡ 2 = reported .undecided i (omega arith) (eqb-true round 0 z) in omega arith
+        | inr z ↦
+            let bit = reported .decided i _ _ (reported .decides i (omega arith) (eqb-false round 0 z)) .2 in
+            omega arith
+      ]
+
+  pub all-decisions : areDecisions (report fcwfa s .decisions) ≡ true
+  all-decisions = Decisions.all-decisions (report fcwfa s .decisions) each-decision
+
+-- printing what is given prints the report
+pub print-given : (given : Report) (n t : ℕ) (counts : Counts) (decisions rounds : List ℕ) → length decisions ≡ n
+    → _≡_ {A = Answer Counts (Unit {0})} (accepted counts) (accepted (countsOf given)) → decisions ≡ given .decisions → rounds ≡ given .rounds
+    → reportText (length decisions) t (givenBy counts decisions rounds) ≡ reportText n t given
+print-given given n t counts decisions rounds long same ed er =
+    let c : counts ≡ countsOf given = ap (valueOr counts) same in
+    ap₂ (λ (m : ℕ) (x : Counts). reportText m t (givenBy x decisions rounds)) long c
+    ∙ ap₂ (λ (d r : List ℕ). reportText n t (givenBy (countsOf given) d r)) ed er

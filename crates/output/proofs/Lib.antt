@@ -1,0 +1,4 @@
+pub mod Buffer
+pub mod Lengths
+pub mod Given
+pub mod Texts

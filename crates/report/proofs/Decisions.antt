@@ -1,0 +1,38 @@
+-- Tables of decisions, and what is written of them. Assumes nothing.
+use mathlib.Core.Path.{_≡_}
+use mathlib.Core.List.{List, []}
+use mathlib.Core.Bool.{true, false}
+use Prim.Native.Nat.{ℕ}
+use native.Mathlib.Omega.{arith}
+use borrow.Author.Tests.{eq-eqb, ne-eqb, eqb-true, leb-true, le-leb}
+use lib.ListN.{length, getD}
+use lib.Dec.{leb}
+use Rattle.laws.proofs.Counting.{count-of-all, count-full}
+use Rattle.simulator.specs.declared.Counts.{Counts}
+use Rattle.simulator.specs.Answers.{givenBy}
+use Rattle.text.specs.Output.{reportText}
+use Rattle.report.specs.Shown.{areDecisions, shown, AllDecisions}
+
+pub decisions-all : (decisions : List ℕ) → areDecisions decisions ≡ true → AllDecisions decisions
+unfolding areDecisions
+decisions-all decisions e i l =
+    let full = eqb-true _ (length decisions) e in
+    leb-true (getD decisions i 0) 2 (count-full (length decisions) (λ i. leb (getD decisions i 0) 2) (omega arith) i l)
+
+pub all-decisions : (decisions : List ℕ) → AllDecisions decisions → areDecisions decisions ≡ true
+unfolding areDecisions
+all-decisions decisions h =
+    eq-eqb _ (length decisions) (count-of-all (length decisions) (λ i. leb (getD decisions i 0) 2) (λ i l. le-leb (getD decisions i 0) 2 (h i l)))
+
+module _ (t : ℕ) (counts : Counts) (decisions rounds : List ℕ) where
+  pub shown-all : length rounds ≡ length decisions → areDecisions decisions ≡ true → shown t counts decisions rounds ≡ reportText (length decisions) t (givenBy counts decisions rounds)
+  unfolding shown
+  shown-all e h = rw (eq-eqb (length rounds) (length decisions) e, h)
+
+  pub shown-lengths : (length rounds ≡ length decisions → ⊥) → [] ≡ shown t counts decisions rounds
+  unfolding shown
+  shown-lengths e = rw (ne-eqb (length rounds) (length decisions) e)
+
+  pub shown-none : length rounds ≡ length decisions → areDecisions decisions ≡ false → [] ≡ shown t counts decisions rounds
+  unfolding shown
+  shown-none e h = rw (eq-eqb (length rounds) (length decisions) e, h)
