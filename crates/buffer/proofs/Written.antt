@@ -124,6 +124,11 @@ writes-more {a} {b} {c} {i} {j} {k} p q v w =
     let next : Writes (written a i p) (nextPlace a i p) c k q = subst (λ (x : ℕ). Writes (written a i p) x c k q) (v .place) (subst (λ (x : List ℕ). Writes x j c k q) (v .bytes) w) in
     record { bytes = next .bytes ∙ joined a i p q; place = next .place ∙ joined-place a i p q }
 
+-- the place after them is in the buffer, or its end
+pub writes-inside : {a b : List ℕ} {i j : ℕ} {p : List ℕ} → Writes a i b j p → i ≤ length a → (j ≤ length a) × (length b ≡ length a)
+unfolding nextPlace
+writes-inside {a} {i = i} {p = p} w l = let place = w .place in (omega arith, ap length (w .bytes) ∙ written-long a i p)
+
 -- a loop that writes the bytes of a part in turn
 pub writes-next : {a b c : List ℕ} {i j k : ℕ} (part : List ℕ) (m : ℕ) → m < length part → Writes a i b j (take m part) → Writes b j c k (getD part m 0 ∷ [])
     → Writes a i c k (take (m + 1) part)

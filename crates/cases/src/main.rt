@@ -78,39 +78,15 @@ fn show_answer(case: Case, answer: Simulated, decisions: [u8; 4], rounds: [u8; 4
         show_difference(false);
         return;
     };
-    show_counts(counts);
-    show_processes(decisions, rounds);
+    show_report(counts, decisions, rounds);
     show_difference(is_as_marked(case, counts, decisions, rounds));
 }
 
-// The counts, under their names, and the names of what comes for each process.
-fn show_counts(counts: Counts) {
-    print(b"n t f first last messages\n");
-    print_number(N, b" ");
-    print_number(T, b" ");
-    print_number(counts.f, b" ");
-    print_number(counts.first, b" ");
-    print_number(counts.last, b" ");
-    print_number(counts.messages, b"\nid decision round\n");
-}
-
-fn show_processes(decisions: [u8; 4], rounds: [u8; 4]) {
-    let mut i: usize = 0;
-    while i < N {
-        show_process(i + 1, decisions[i], rounds[i]);
-        i += 1;
-    }
-}
-
-fn show_process(id: usize, decision: u8, round: u8) {
-    print_number(id, b" ");
-    print(&[decision_letter(decision), b' ']);
-    print_number(round as usize, b"\n");
-}
-
-// A decision as it is printed: 2 is none.
-fn decision_letter(decision: u8) -> u8 {
-    if decision < 2 { b'0' + decision } else { b'-' }
+// The report, in the lines that `bench` writes. It has less than 256 bytes.
+fn show_report(counts: Counts, decisions: [u8; 4], rounds: [u8; 4]) {
+    let mut bytes = [0u8; 256];
+    let length = report::put_report(&mut bytes, 0, T, counts, &decisions, &rounds);
+    print(&bytes[..length]);
 }
 
 // Whether these are the results that the table has for the case.

@@ -8,7 +8,7 @@ use Prim.Native.Nat.{ℕ, _+_, _-_, _≤_, zero-le}
 use native.Mathlib.Omega.{arith}
 use borrow.Author.Tests.{eqb-true, eqb-false, eq-eqb, ne-eqb, not-true}
 use lib.Dec.{eqb, ltb}
-use lib.ListN.{length, getD}
+use lib.ListN.{length}
 use Rattle.laws.proofs.Test.{true-or-false}
 use Rattle.laws.proofs.Answer.{passed, answer-accepted, answer-refused}
 use Rattle.member.specs.declared.Member.{Member}
@@ -18,7 +18,7 @@ use Rattle.member.specs.declared.Rule.the-variants.{Told, ZerosOnly, Qui
 use Rattle.member.specs.Opening.{opening}
 use Rattle.member.specs.State.{inRange, stopped}
 use Rattle.member.specs.Hearing.{tallyOf, estimates, told, zerosOnly, quiet, enough, ruleMet, moved, firstEstimate, lowered, toldValue, byRule, becomes, hears}
-use Rattle.member.specs.Questions.{hearQuestion, rowQuestion}
+use Rattle.member.specs.Questions.{hearQuestion}
 use Rattle.member.specs.Answers.{hearAnswer}
 use Rattle.member.specs.Promises.{OpeningPromises, HearingPromises}
 use Rattle.member.proofs.Range.{Limits, Place, waiting, settled, Ranged, ranged, Running, running, open-limits, in-range-ranged, ranged-in-range}
@@ -133,7 +133,6 @@ pub record Accepts (limit : ℕ) (m : Member) (row : List ℕ) : Type 0 where
   pub range : Ranged limit m
   pub runs : Running m
   pub long : length row ≡ m .n
-  pub coded : rowQuestion m (getD row (m .id - 1) 0) (tallyOf row) ≡ 0
 
 module _ (limit : ℕ) (m : Member) (row : List ℕ) where
   pub accepts : hearQuestion limit m row ≡ 0 → Accepts limit m row
@@ -146,7 +145,6 @@ module _ (limit : ℕ) (m : Member) (row : List ℕ) where
         range = in-range-ranged limit m (p1 .0);
         runs = running m (not-true (stopped m) (p2 .0));
         long = eqb-true (length row) (m .n) (p3 .0);
-        coded = p3 .1;
       }
 
   kept-range : hearQuestion limit m row ≡ 0 → inRange limit (hears m row) ≡ true
