@@ -18,8 +18,8 @@ use Rattle.schedule.specs.Questions.{tablesOf}
 use Rattle.text.specs.Forms.{Sizes}
 use Rattle.text.specs.Reading.{onLine, sizesIn, entryIn, scheduleIn, entryQuestions, textQuestions, tailQuestions, restQuestions, headQuestions}
 use Rattle.text.proofs.Accepted.{line-passed}
-use Rattle.reader.specs.declared.Lines.{Lines}
-use Rattle.reader.specs.declared.Lines.the-variants.{Passed}
+use Rattle.reader.specs.declared.Asked.{Asked}
+use Rattle.reader.specs.declared.Asked.the-variants.{Passed}
 use Rattle.reader.specs.Answers.{givenOr, filled, readQuestions, readAnswer, tableAfter}
 use Rattle.reader.specs.Parts.{Table, EntriesRead}
 
@@ -65,9 +65,9 @@ module _ (text : List ℕ) (n t : ℕ) (en : sizesIn text .n ≡ n) (et : sizesI
   read-reaches own l h = filled-take l h ∙ ap (λ (m : ℕ). tabulate m (λ i. entryIn text i .reach)) (sym en)
 
 -- what was read, where the questions of the lines are passed
-pub entries : (r : Lines) (text : List ℕ) (n : ℕ) (votes crashes reaches : List ℕ) → r ≡ Passed → EntriesRead r text n votes crashes reaches
+pub entries : (r : Asked) (text : List ℕ) (n : ℕ) (votes crashes reaches : List ℕ) → r ≡ Passed → EntriesRead r text n votes crashes reaches
     → EntriesRead Passed text n votes crashes reaches
-entries r text n votes crashes reaches e h = subst (λ (x : Lines). EntriesRead x text n votes crashes reaches) e h
+entries r text n votes crashes reaches e h = subst (λ (x : Asked). EntriesRead x text n votes crashes reaches) e h
 
 -- The head's questions, with the sizes as their answer.
 module _ (text : List ℕ) (limit most : ℕ) where

@@ -5,19 +5,19 @@ use Rattle.laws.specs.Answer.{Answer, accepted, refused}
 use Rattle.laws.specs.Filled.{Filled}
 use Rattle.sets.specs.Largest.{largest}
 use Rattle.text.specs.Reading.{entryIn}
-use Rattle.reader.specs.declared.Lines.{Lines}
-use Rattle.reader.specs.declared.Lines.the-variants.{Passed, Refused}
+use Rattle.reader.specs.declared.Asked.{Asked}
+use Rattle.reader.specs.declared.Asked.the-variants.{Passed, Refused}
 
-abbrev pub linesIs : Lines → Answer (Unit {0}) ℕ
-linesIs Passed = accepted tt
-linesIs (Refused number line) = refused number line
+abbrev pub askedIs : Asked → Answer (Unit {0}) ℕ
+askedIs Passed = accepted tt
+askedIs (Refused number line) = refused number line
 
 -- a lent table whose first n entries are those that f gives
 abbrev pub Table : ℕ → List ℕ → (ℕ → ℕ) → Type 0
 Table n table f = Filled 0 largest n table f
 
 -- where the questions of all n lines are passed, three tables hold what stands there
-abbrev pub EntriesRead : Lines → List ℕ → ℕ → List ℕ → List ℕ → List ℕ → Type 0
+abbrev pub EntriesRead : Asked → List ℕ → ℕ → List ℕ → List ℕ → List ℕ → Type 0
 EntriesRead (Refused number line) text n votes crashes reaches = Unit {0}
 EntriesRead Passed text n votes crashes reaches =
     Table n votes (λ i. entryIn text i .vote) × Table n crashes (λ i. entryIn text i .crash) × Table n reaches (λ i. entryIn text i .reach)

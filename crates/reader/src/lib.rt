@@ -15,7 +15,7 @@ use sets::Set;
 use sets::WIDTH;
 
 // Some questions were answered by yes, or the number of the first whose answer is no and its line.
-pub enum Lines {
+pub enum Asked {
     Passed,
     Refused(u8, usize),
 }
@@ -31,7 +31,7 @@ pub fn read(text: &[u8], votes: &mut [u8], crashes: &mut [u8], reaches: &mut [Se
         return head;
     };
     let rest = rest::read_rest(text, n, t, votes, crashes, reaches);
-    if let Lines::Refused(number, line) = rest {
+    if let Asked::Refused(number, line) = rest {
         return Reading::Refused(number, line);
     }
     Reading::Read(n, t)

@@ -5,8 +5,8 @@ ghost use lib.ListN.{length};
 ghost use Rattle.sets.specs.Largest.{largest};
 ghost use Rattle.text.specs.Reading.{sizesIn, scheduleIn, restQuestions};
 ghost use Rattle.reader.specs.Answers.{givenOr, filled};
-ghost use Rattle.reader.specs.Parts.{linesIs};
-use crate::Lines;
+ghost use Rattle.reader.specs.Parts.{askedIs};
+use crate::Asked;
 use crate::parts::read_processes;
 use crate::parts::read_tail;
 use crate::tables;
@@ -23,10 +23,10 @@ pub fn read_rest(
     votes: &mut [u8],
     crashes: &mut [u8],
     reaches: &mut [Set],
-) -> Lines
+) -> Asked
     requires sizes { ⌜ (n ≤ largest) × (sizesIn (now text) .n ≡ n) × (sizesIn (now text) .t ≡ t) ⌝ }
     requires long { ⌜ (length (now votes) ≡ largest) × (length (now crashes) ≡ largest) × (length (now reaches) ≡ largest) ⌝ }
-    ensures asked { λ r. ⌜ linesIs r ≡ restQuestions (now (text .entry)) ⌝ }
+    ensures asked { λ r. ⌜ askedIs r ≡ restQuestions (now (text .entry)) ⌝ }
     ensures votes_read { λ r. ⌜ now (votes .exit) ≡ givenOr (restQuestions (now (text .entry))) (filled (scheduleIn (now (text .entry)) .votes) (now (votes .entry))) (now (votes .entry)) ⌝ }
     ensures crashes_read { λ r. ⌜ now (crashes .exit) ≡ givenOr (restQuestions (now (text .entry))) (filled (scheduleIn (now (text .entry)) .crashes) (now (crashes .entry))) (now (crashes .entry)) ⌝ }
     ensures reaches_read { λ r. ⌜ now (reaches .exit) ≡ givenOr (restQuestions (now (text .entry))) (filled (scheduleIn (now (text .entry)) .reaches) (now (reaches .entry))) (now (reaches .entry)) ⌝ }
@@ -42,11 +42,11 @@ pub fn read_rest(
         &mut own_crashes,
         &mut own_reaches,
     );
-    let Lines::Passed = lines else {
+    let Asked::Passed = lines else {
         return lines;
     };
     let tail = read_tail(text, n, t, &own_crashes[..n]);
-    let Lines::Passed = tail else {
+    let Asked::Passed = tail else {
         return tail;
     };
     tables::fill(
@@ -58,5 +58,5 @@ pub fn read_rest(
         crashes,
         reaches,
     );
-    Lines::Passed
+    Asked::Passed
 }

@@ -13,7 +13,7 @@ use Rattle.text.specs.Forms.{Sizes}
 use Rattle.text.specs.Reading.{longest, sizesIn, restQuestions}
 use Rattle.forms.specs.Answers.{readingIs}
 use Rattle.reader.specs.Answers.{readQuestions}
-use Rattle.reader.specs.Parts.{linesIs}
+use Rattle.reader.specs.Parts.{askedIs}
 use Rattle.reader.proofs.Whole.{tables-refuse, head-refused, head-passed, read-refused, read-accepted, table-kept, table-read}
 use Rattle.reader.proofs.read.Statement.{statement}
 use Rattle.reader.proofs.read.Tie as tie
@@ -88,14 +88,14 @@ same-length-3 : tie.Need-same-length-3
 same-length-3 c = search needs
 
 -- what the rest answers is answered, and the tables are as it left them
-answered-by-rest : (c : tie.After-read-rest) → let a = c .before .before .before .before .before .before .before .before .before .before .before .before .before .before .args in linesIs (c .read-rest .result) ≡ readQuestions largest longest (a .text .now) (a .votes .now) (a .crashes .now) (a .reaches .now)
+answered-by-rest : (c : tie.After-read-rest) → let a = c .before .before .before .before .before .before .before .before .before .before .before .before .before .before .args in askedIs (c .read-rest .result) ≡ readQuestions largest longest (a .text .now) (a .votes .now) (a .crashes .now) (a .reaches .now)
 answered-by-rest c = c .read-rest .ensures .0 ∙ sym (passed-head (c .before .before .before .before .before) .0)
 
 returns-3 : tie.Need-returns-3
 returns-3 c =
     let r = c .before .before .before .before .before .before .before .before .before in
     let p = passed-head (r .before .before .before .before .before) .0 in
-    let e = sym (answered-by-rest r) ∙ ap linesIs (c .before .rest .given .1) in
+    let e = sym (answered-by-rest r) ∙ ap askedIs (c .before .rest .given .1) in
     record {
       answered = read-refused _ _ _ _ _ _ e;
       votes-read = r .read-rest .ensures .1 .0 ∙ table-read _ _ _ _ _ _ p _ _;
@@ -120,7 +120,7 @@ returns-4 c =
     let r = c .before .before .before .before .before .before .before .before in
     let h = passed-head (r .before .before .before .before .before) in
     let p = h .0 in
-    let e = sym (answered-by-rest r) ∙ ap linesIs (c .enum-told2 .given .1) in
+    let e = sym (answered-by-rest r) ∙ ap askedIs (c .enum-told2 .given .1) in
     record {
       answered = ap accepted (sym (h .1)) ∙ read-accepted _ _ _ _ _ _ e;
       votes-read = r .read-rest .ensures .1 .0 ∙ table-read _ _ _ _ _ _ p _ _;

@@ -5,9 +5,9 @@ use native.Mathlib.Omega.{arith}
 use borrow.Author.Needs.{needs}
 use lib.ListN.{length, take}
 use lib.Seq.{length-take-le}
-use Rattle.reader.specs.declared.Lines.the-variants.{Passed}
+use Rattle.reader.specs.declared.Asked.the-variants.{Passed}
 use Rattle.text.specs.Reading.{restQuestions}
-use Rattle.reader.specs.Parts.{linesIs, EntriesRead}
+use Rattle.reader.specs.Parts.{askedIs, EntriesRead}
 use Rattle.reader.proofs.Whole.{gives, keeps, filled-with, lines-refuse, lines-pass, read-votes, read-crashes, read-reaches, entries}
 use Rattle.reader.proofs.rest.read_rest.Statement.{statement}
 use Rattle.reader.proofs.rest.read_rest.Tie as tie
@@ -45,7 +45,7 @@ returns c =
     let p = c .before .before .before .before .before in
     let a = p .before .before .before .before .before .before .before .before .before .before .before .args in
     let pre = p .before .before .before .before .before .before .before .before .before .before .before .pre in
-    let told = ap linesIs (c .enum-told2 .given .1) in
+    let told = ap askedIs (c .enum-told2 .given .1) in
     let e = lines-refuse (a .text .now) (a .n) (a .t) (pre .0 .1) (pre .0 .2) (sym (p .read-processes .ensures .0) ∙ told) in
     (told ∙ sym e, (keeps _ _ e, (keeps _ _ e, keeps _ _ e)))
 
@@ -77,7 +77,7 @@ enum-told-4 : tie.Need-enum-told-4
 enum-told-4 c = search needs
 
 -- what is asked after the lines is then the answer of the rest
-tail-asked : (c : tie.After-read-tail) → linesIs (c .read-tail .result) ≡ restQuestions (c .before .before .before .before .before .before .before .before .before .before .before .before .before .before .before .before .before .before .args .text .now)
+tail-asked : (c : tie.After-read-tail) → askedIs (c .read-tail .result) ≡ restQuestions (c .before .before .before .before .before .before .before .before .before .before .before .before .before .before .before .before .before .before .args .text .now)
 tail-asked c =
     let p = c .before .before .before .before .before .before .before in
     let a = p .before .before .before .before .before .before .before .before .before .before .before .args in
@@ -85,12 +85,12 @@ tail-asked c =
     let told = c .before .before in
     let own = p .read-processes .last .1 .1 .1 .1 .0 in
     c .read-tail .ensures
-    ∙ lines-pass (a .text .now) (a .n) (a .t) (pre .0 .1) (pre .0 .2) (sym (p .read-processes .ensures .0) ∙ ap linesIs (told .enum-told .given .1)) _
+    ∙ lines-pass (a .text .now) (a .n) (a .t) (pre .0 .1) (pre .0 .2) (sym (p .read-processes .ensures .0) ∙ ap askedIs (told .enum-told .given .1)) _
     (read-crashes (a .text .now) (a .n) (a .t) (pre .0 .1) (pre .0 .2) own (pre .0 .0) (tables-read told .1))
 
 returns-2 : tie.Need-returns-2
 returns-2 c =
-    let told = ap linesIs (c .enum-told4 .given .1) in
+    let told = ap askedIs (c .enum-told4 .given .1) in
     let e = sym (tail-asked (c .before .before)) ∙ told in
     (told ∙ sym e, (keeps _ _ e, (keeps _ _ e, keeps _ _ e)))
 
@@ -114,7 +114,7 @@ returns-3 c =
     let a = p .before .before .before .before .before .before .before .before .before .before .before .args in
     let pre = p .before .before .before .before .before .before .before .before .before .before .before .pre in
     let tables = tables-read (r .before .before) in
-    let e = sym (tail-asked r) ∙ ap linesIs (c .before .before .before .before .before .before .before .before .before .before .enum-told3 .given .1) in
+    let e = sym (tail-asked r) ∙ ap askedIs (c .before .before .before .before .before .before .before .before .before .before .enum-told3 .given .1) in
     let votes = read-votes (a .text .now) (a .n) (a .t) (pre .0 .1) (pre .0 .2) _ (pre .0 .0) (tables .0) in
     let crashes = read-crashes (a .text .now) (a .n) (a .t) (pre .0 .1) (pre .0 .2) _ (pre .0 .0) (tables .1) in
     let reaches = read-reaches (a .text .now) (a .n) (a .t) (pre .0 .1) (pre .0 .2) _ (pre .0 .0) (tables .2) in
