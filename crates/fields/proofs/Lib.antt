@@ -3,3 +3,4 @@ pub mod Forms
 pub mod Bits
 pub mod Digits
 pub mod Written
+pub mod OneAnswer

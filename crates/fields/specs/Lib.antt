@@ -1,3 +1,4 @@
 pub mod Found
 pub mod Decimal
 pub mod Fields
+pub mod Facts

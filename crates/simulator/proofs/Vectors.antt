@@ -1,0 +1,20 @@
+-- The calls of specs/Vectors.antt: what the definitions answer and leave is computed, for all at once. Assumes nothing.
+use mathlib.Core.Path.{refl}
+use lib.Count.{ones, onesIn}
+use Rattle.laws.specs.Test.{within}
+use Rattle.laws.specs.Below.{sum, count, tabulate, fold}
+use Rattle.laws.specs.Answer.{ask, andThen, askEach, answer, placeAfter}
+use Rattle.sets.specs.Sets.{names}
+use Rattle.member.specs.State.{stopped}
+use Rattle.member.specs.Saying.{says}
+use Rattle.member.specs.Hearing.{codes, told, zerosOnly, quiet, enough, ruleMet, firstEstimate, lowered, toldValue, byRule, becomes}
+use Rattle.schedule.specs.Schedule.{crashesIn}
+use Rattle.schedule.specs.Questions.{tablesOf, answersOf, reachRight, entryQuestion, question}
+use Rattle.run.specs.Run.{completesRound, isHeard, delivered, codeHeard, rowOf, stateAfter, nextState, played, opened, statesAfter, final}
+use Rattle.run.specs.Report.{sentBy, messages, decisionOf, before, firstWith, firstOf, lastOf}
+use Rattle.simulator.specs.Answers.{simulateAnswer}
+use Rattle.simulator.specs.Vectors.{SimulatorVectors}
+
+pub simulator-vectors : SimulatorVectors
+unfolding ones onesIn within sum count tabulate fold ask andThen askEach answer placeAfter names stopped says codes told zerosOnly quiet enough ruleMet firstEstimate lowered toldValue byRule becomes crashesIn tablesOf answersOf reachRight entryQuestion question completesRound isHeard delivered codeHeard rowOf stateAfter nextState played opened statesAfter final sentBy messages decisionOf before firstWith firstOf lastOf simulateAnswer
+simulator-vectors = record { answered = refl; decided = refl; timed = refl }

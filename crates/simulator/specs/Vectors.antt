@@ -1,0 +1,66 @@
+-- Calls of the simulator with their answers and the tables after them, written from document 01 by hand, and the statement that covers them. Proved in
+-- proofs/Vectors.antt: `simulator-vectors : SimulatorVectors`, by computing what the definitions give.
+use Prim.Native.Nat.{ℕ}
+use mathlib.Core.Path.{_≡_}
+use mathlib.Core.List.{List, [], _∷_, map}
+use Rattle.laws.specs.Answer.{Answer, accepted, refused}
+use Rattle.sets.specs.Largest.{largest}
+use Rattle.schedule.specs.Four.{four, allOne, allZero}
+use Rattle.schedule.specs.Schedule.{Schedule, scheduleOf}
+use Rattle.simulator.specs.declared.Counts.{Counts}
+use Rattle.simulator.specs.Answers.{simulateAnswer, decisionsAfter, roundsAfter}
+
+-- a schedule and the two answer tables lent with it; the answer, and the tables after the call
+pub record SimulateCall : Type 0 where
+  pub schedule : Schedule
+  pub decisions : List ℕ
+  pub rounds : List ℕ
+  pub answer : Answer Counts (Unit {0})
+  pub decisionsNow : List ℕ
+  pub roundsNow : List ℕ
+
+-- "Nothing lent is changed": a refusal with its number
+abbrev pub refuses : Schedule → List ℕ → List ℕ → ℕ → SimulateCall
+refuses s decisions rounds number = record {
+  schedule = s;
+  decisions = decisions;
+  rounds = rounds;
+  answer = refused number tt;
+  decisionsNow = decisions;
+  roundsNow = rounds;
+}
+
+-- "n = 4, t = 3", all votes 1, with these crash rounds and reaches
+abbrev pub marked : List ℕ → List ℕ → Schedule
+marked crashes reaches = scheduleOf 4 3 allOne crashes reaches
+
+-- tables that hold 7 and 8 throughout
+abbrev pub sevens : List ℕ
+sevens = four 7 7 7 7
+
+abbrev pub eights : List ℕ
+eights = four 8 8 8 8
+
+abbrev pub calls : List SimulateCall
+calls =
+    -- case D: f is 1, first 2, last 3, and 49 messages; "decision 0, 1 or 2 (none), and its round, 0 for none"
+    record {
+      schedule = marked (four 1 0 0 0) (four 2 0 0 0);
+      decisions = sevens;
+      rounds = eights;
+      answer = accepted (record { f = 1; first = 2; last = 3; messages = 49 });
+      decisionsNow = four 2 0 0 0;
+      roundsNow = four 0 3 3 3;
+    } ∷
+    -- "two answer tables n long? 3": one too short, one too long
+    refuses (marked allZero allZero) (7 ∷ 7 ∷ 7 ∷ []) eights 3 ∷
+    refuses (marked allZero allZero) sevens (8 ∷ 8 ∷ 8 ∷ 8 ∷ 8 ∷ []) 3 ∷
+    -- four crashes
+    refuses (marked (four 1 1 1 1) allZero) sevens eights 7 ∷
+    []
+
+-- each of these calls has its answer, and leaves its tables
+pub record SimulatorVectors : Type 0 where
+  pub answered : map (λ c. simulateAnswer largest (c .schedule) (c .decisions) (c .rounds)) calls ≡ map (λ c. c .answer) calls
+  pub decided : map (λ c. decisionsAfter largest (c .schedule) (c .decisions) (c .rounds)) calls ≡ map (λ c. c .decisionsNow) calls
+  pub timed : map (λ c. roundsAfter largest (c .schedule) (c .decisions) (c .rounds)) calls ≡ map (λ c. c .roundsNow) calls
