@@ -1,12 +1,15 @@
--- Calls of a member with their answers, written from document 01 by hand, and the statement that covers them. Proved in proofs/Vectors.antt:
--- `member-vectors : MemberVectors`, by computing what the definitions give.
+-- Calls of a member with their answers, written from document 01 by hand, and the statement that covers them. Proved in proofs/Vectors.antt, by
+-- computing what the definitions give: `member-vectors : MemberVectors` and `answer-cases : (m : Member) → AnswerCases m`.
 use Prim.Native.Nat.{ℕ}
 use mathlib.Core.Path.{_≡_}
 use mathlib.Core.List.{List, [], _∷_, map}
 use Rattle.laws.specs.Answer.{Answer, accepted, refused}
 use Rattle.member.specs.declared.Member.{Member}
 use Rattle.sets.specs.Largest.{largest}
-use Rattle.member.specs.Answers.{openAnswer, sayAnswer, hearAnswer}
+use Rattle.member.specs.declared.Opened.the-variants as opened
+use Rattle.member.specs.declared.Said.the-variants as said
+use Rattle.member.specs.declared.Heard.the-variants as heard
+use Rattle.member.specs.Answers.{openedIs, openAnswer, saidIs, sayAnswer, heardIs, hearAnswer}
 
 -- "The state is n, t, own number, the round to play next, the estimate (0 or 1), and the decided round (0 while undecided)."
 abbrev pub state : ℕ → ℕ → ℕ → ℕ → ℕ → ℕ → Member
@@ -161,3 +164,12 @@ pub record MemberVectors : Type 0 where
   pub opened : map (λ o. openAnswer largest (o .n) (o .t) (o .id) (o .vote)) openings ≡ map (λ o. o .answer) openings
   pub said : map (λ s. sayAnswer largest (s .member)) sayings ≡ map (λ s. s .answer) sayings
   pub heard : map (λ h. hearAnswer largest (h .member) (h .row)) hearings ≡ map (λ h. h .answer) hearings
+
+-- What each case of the answers' enums stands for: a refusal holds document 01's number, an acceptance the state or the code.
+pub record AnswerCases (m : Member) : Type 0 where
+  pub started : openedIs (opened.Started m) ≡ accepted m
+  pub not-opened : openedIs (opened.Refused 10) ≡ refused 10 tt
+  pub spoken : saidIs (said.Code 4) ≡ accepted 4
+  pub not-said : saidIs (said.Refused 11) ≡ refused 11 tt
+  pub moved : heardIs (heard.Moved m) ≡ accepted m
+  pub not-heard : heardIs (heard.Refused 15 m) ≡ refused 15 m

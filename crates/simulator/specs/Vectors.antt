@@ -1,5 +1,5 @@
 -- Calls of the simulator with their answers and the tables after them, written from document 01 by hand, and the statement that covers them. Proved in
--- proofs/Vectors.antt: `simulator-vectors : SimulatorVectors`, by computing what the definitions give.
+-- proofs/Vectors.antt, by computing what the definitions give: `simulator-vectors : SimulatorVectors` and `simulated-cases`.
 use Prim.Native.Nat.{ℕ}
 use mathlib.Core.Path.{_≡_}
 use mathlib.Core.List.{List, [], _∷_, map}
@@ -8,7 +8,8 @@ use Rattle.sets.specs.Largest.{largest}
 use Rattle.schedule.specs.Four.{four, allOne, allZero}
 use Rattle.schedule.specs.Schedule.{Schedule, scheduleOf}
 use Rattle.simulator.specs.declared.Counts.{Counts}
-use Rattle.simulator.specs.Answers.{simulateAnswer, decisionsAfter, roundsAfter}
+use Rattle.simulator.specs.declared.Simulated.the-variants.{Completed, Refused}
+use Rattle.simulator.specs.Answers.{simulatedIs, countsOf, simulateAnswer, decisionsAfter, roundsAfter, givenBy}
 
 -- a schedule and the two answer tables lent with it; the answer, and the tables after the call
 pub record SimulateCall : Type 0 where
@@ -64,3 +65,11 @@ pub record SimulatorVectors : Type 0 where
   pub answered : map (λ c. simulateAnswer largest (c .schedule) (c .decisions) (c .rounds)) calls ≡ map (λ c. c .answer) calls
   pub decided : map (λ c. decisionsAfter largest (c .schedule) (c .decisions) (c .rounds)) calls ≡ map (λ c. c .decisionsNow) calls
   pub timed : map (λ c. roundsAfter largest (c .schedule) (c .decisions) (c .rounds)) calls ≡ map (λ c. c .roundsNow) calls
+
+-- What each case of the answer's enum stands for, and the report that counts and tables make: its values are not exchanged.
+pub record SimulatedCases (counts : Counts) (decisions rounds : List ℕ) : Type 0 where
+  pub completed : simulatedIs (Completed counts) ≡ accepted counts
+  pub not-run : simulatedIs (Refused 7) ≡ refused 7 tt
+  pub given-counts : countsOf (givenBy counts decisions rounds) ≡ counts
+  pub given-decisions : givenBy counts decisions rounds .decisions ≡ decisions
+  pub given-rounds : givenBy counts decisions rounds .rounds ≡ rounds
