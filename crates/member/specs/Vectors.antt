@@ -118,6 +118,10 @@ hearings =
     -- "r ≥ 2, some code 3 or 4: it takes that value and decides in r."
     moves (two 3 1 0) (five 2 2 3 0 0) (two 4 0 3) ∷
     moves (two 3 0 0) (five 0 1 4 0 0) (two 4 1 3) ∷
+    -- also where a rule of estimates is met: a quiet round, enough of them in round t, and the last round
+    moves (two 3 1 0) (five 2 2 2 2 3) (two 4 0 3) ∷
+    moves (two 4 1 0) (five 2 2 3 0 0) (two 5 0 4) ∷
+    moves (two 5 1 0) (five 0 2 3 0 0) (two 6 0 5) ∷
     -- "r = 2 and all estimates heard are 0", with two missing, and the same row in r = 3
     moves (two 2 0 0) (five 1 1 0 0 1) (two 3 0 2) ∷
     moves (two 3 0 0) (five 1 1 0 0 1) (two 4 0 0) ∷
@@ -133,8 +137,10 @@ hearings =
     -- "r = t and at least n − t + 1 estimates": two and one in r = 4
     moves (two 4 1 0) (five 0 2 2 0 0) (two 5 1 4) ∷
     moves (two 4 1 0) (five 0 2 0 0 0) (two 5 1 0) ∷
+    moves (two 4 1 0) (five 0 2 1 0 0) (two 5 0 4) ∷
     -- "r = t + 1"
     moves (two 5 1 0) (five 0 2 0 0 0) (two 6 1 5) ∷
+    moves (two 5 1 0) (five 1 2 0 0 0) (two 6 0 5) ∷
     -- "A decided member changes nothing else."
     moves (two 3 1 2) (five 1 4 1 0 4) (two 4 1 2) ∷
     moves (two 3 0 2) (five 2 3 2 2 2) (two 4 0 2) ∷

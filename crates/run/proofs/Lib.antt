@@ -22,3 +22,4 @@ pub mod Deciders
 pub mod NoneRefused
 pub mod Silence
 pub mod Theorem
+pub mod Vectors

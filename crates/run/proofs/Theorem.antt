@@ -1,5 +1,6 @@
 -- All that is promised of a run, of every schedule that is accepted, whatever the limit on n. Assumes nothing.
 use mathlib.Core.Path.{_≡_}
+use mathlib.Core.Logic.{inl, inr}
 use mathlib.Core.Bool.{Bool}
 use Prim.Native.Nat.{ℕ}
 use native.Mathlib.Omega.{arith}
@@ -7,7 +8,8 @@ use Rattle.schedule.specs.Schedule.{Schedule}
 use Rattle.schedule.specs.Questions.{question}
 use Rattle.schedule.proofs.Accepted.{question-accepted}
 use Rattle.run.specs.Protocol.{fcwfa}
-use Rattle.run.specs.Facts.{RunPromises}
+use Rattle.run.specs.Facts.{Conditions, RunPromises}
+use Rattle.run.proofs.Rounds.{completes-if}
 use Rattle.run.proofs.Demand.{demand-3, by-crashes-so-far}
 use Rattle.run.proofs.Deciders.{deciders}
 use Rattle.run.proofs.Reported.{reported}
@@ -15,11 +17,20 @@ use Rattle.run.proofs.NoneRefused.{none-refused}
 use Rattle.run.proofs.Given.{given-demand-3}
 use Rattle.run.proofs.Silence.{silent-from, mute-stops}
 
+-- the conditions of demand 3 are what document 01 has them be
+conditions : (s : Schedule) → Conditions s
+conditions s = record {
+  voted-zero = λ k l z. record { voter = k; process = l; vote = z };
+  completes-always = λ r i l z. record { process = l; completed = completes-if s r i (inl z) };
+  completes-until = λ r i l h. record { process = l; completed = completes-if s r i (inr h) };
+}
+
 pub accepted-run : (s : Schedule) (limit : ℕ) (answers : Bool) → question s limit answers ≡ 0 → RunPromises limit s
 accepted-run s limit answers e =
     let a = question-accepted s limit answers e in
     record {
       demand-3 = demand-3 s (a .rules);
+      conditions = conditions s;
       crashes-so-far = by-crashes-so-far s (a .rules);
       reported = reported s (a .rules);
       deciders = deciders s (a .rules);

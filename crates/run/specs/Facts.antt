@@ -16,7 +16,7 @@ use Rattle.schedule.specs.Schedule.{Schedule, voteOf, crashOf, reachOf, crashed
 use Rattle.run.specs.Protocol.{Protocol, fcwfa}
 use Rattle.run.specs.Run.{stateAt, codeHeard, rowOf, statesAfter, after, final}
 use Rattle.run.specs.Report.{roundOf, before, sent, sentAfter, report}
-use Rattle.run.specs.Demand.{Completes, Decides, CompletesUndecided, Demand3}
+use Rattle.run.specs.Demand.{Completes, Decides, CompletesUndecided, SomeVotedZero, Demand3}
 use Rattle.run.specs.Given.{GivenDemand3}
 
 module _ (P : Protocol) (s : Schedule) where
@@ -53,6 +53,12 @@ module _ (P : Protocol) (s : Schedule) where
   pub record SilentFrom (r : ℕ) : Type 0 where
     pub states : (k : ℕ) → r ≤ k → statesAfter P s k ≡ statesAfter P s r
     pub sends : (k : ℕ) → r ≤ k → sentAfter P s k ≡ 0
+
+-- What demand 3 asks for is met where document 01 has it: a vote 0 of any process, and a process that never crashes or crashes later.
+pub record Conditions (s : Schedule) : Type 0 where
+  pub voted-zero : (k : ℕ) → k < s .n → voteOf s k ≡ 0 → SomeVotedZero s
+  pub completes-always : (r i : ℕ) → i < s .n → crashOf s i ≡ 0 → Completes s r i
+  pub completes-until : (r i : ℕ) → i < s .n → r < crashOf s i → Completes s r i
 
 -- By the crashes so far: a process that completes round r undecided has this many processes with crash rounds from 1 to r. Round B follows.
 pub record CrashesSoFar (s : Schedule) : Type 0 where
@@ -103,6 +109,7 @@ pub record NoneRefused (limit : ℕ) (s : Schedule) : Type 0 where
 -- `accepted-run : (s : Schedule) (limit : ℕ) (answers : Bool) → question s limit answers ≡ 0 → RunPromises limit s`
 pub record RunPromises (limit : ℕ) (s : Schedule) : Type 0 where
   pub demand-3 : Demand3 s
+  pub conditions : Conditions s
   pub crashes-so-far : CrashesSoFar s
   pub reported : Reported s
   pub deciders : Deciders s

@@ -4,3 +4,4 @@ pub mod Report
 pub mod Demand
 pub mod Given
 pub mod Facts
+pub mod Vectors

@@ -54,6 +54,8 @@ vectors =
     asked (four 2 1 1 1) allZero three 3 ∷
     asked (four 2 1 1 1) allZero five 3 ∷
     record { schedule = scheduleOf 4 3 (four 2 1 1 1) allZero allZero; decisions = 3; rounds = 4; number = 3 } ∷
+    record { schedule = scheduleOf 4 3 (four 2 1 1 1) allZero allZero; decisions = 5; rounds = 4; number = 3 } ∷
+    record { schedule = scheduleOf 4 3 (four 2 1 1 1) allZero allZero; decisions = 4; rounds = 3; number = 3 } ∷
     record { schedule = scheduleOf 4 3 (four 2 1 1 1) allZero allZero; decisions = 4; rounds = 5; number = 3 } ∷
     -- "vote 0 or 1? 4; crash round at most t + 1? 5; reach as ruled above? 6": process 2 with vote 2, crash round 5 and itself in its reach, and with less of that
     asked (four 1 2 1 1) (four 0 5 0 0) (four 0 2 0 0) 4 ∷

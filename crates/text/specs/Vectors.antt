@@ -28,6 +28,9 @@ vectors =
     -- case E, "-, -, 1@4, -, 31": "1: 1/0110; 4: 2/0100; 2: 3/0000"
     prints "n t\n4 3\nid vote crash reach\n1 1 1 0110\n2 1 3 0000\n3 1 0 0000\n4 1 2 0100\n"
     "n t f first last messages\n4 3 3 3 4 31\nid decision round\n1 - 0\n2 - 0\n3 1 4\n4 - 0\n" ∷
+    -- process 3 alone hears the message of process 1 in round 2, and so is the first to decide, before processes with lower numbers
+    prints "n t\n4 3\nid vote crash reach\n1 1 2 0010\n2 1 0 0000\n3 1 0 0000\n4 1 0 0000\n"
+    "n t f first last messages\n4 3 1 3 3 49\nid decision round\n1 - 0\n2 1 3\n3 1 2\n4 1 3\n" ∷
     -- numbers of two and three digits: the last of ten processes votes 0, and each sends ten messages in three rounds
     prints "n t\n10 3\nid vote crash reach\n1 1 0 0000000000\n2 1 0 0000000000\n3 1 0 0000000000\n4 1 0 0000000000\n5 1 0 0000000000\n6 1 0 0000000000\n7 1 0 0000000000\n8 1 0 0000000000\n9 1 0 0000000000\n10 0 0 0000000000\n"
     "n t f first last messages\n10 3 0 1 2 300\nid decision round\n1 0 2\n2 0 2\n3 0 2\n4 0 2\n5 0 2\n6 0 2\n7 0 2\n8 0 2\n9 0 2\n10 0 2\n" ∷
@@ -59,6 +62,8 @@ vectors =
     prints "n t\n4 3\nid vote crash reach\n1 1 0 0000\n2 2 5 0100\n3 1 0 000\n" "refused line\n4 5\n2 2 5 0100\n" ∷
     prints "n t\n4 3\nid vote crash reach\n1 1 0 0000\n2 1 5 0100\n3 2 0 0000\n" "refused line\n5 5\n2 1 5 0100\n" ∷
     prints "n t\n4 3\nid vote crash reach\n1 1 0 0000\n2 1 4 0100\n3 1 5 0000\n" "refused line\n6 5\n2 1 4 0100\n" ∷
+    -- the last process's line before what stands after it
+    prints "n t\n4 3\nid vote crash reach\n1 1 0 0000\n2 1 0 0000\n3 1 0 0000\n4 2 0 0000\n5\n" "refused line\n4 7\n4 2 0 0000\n" ∷
     -- "Nothing after line n + 3? 9, line n + 4. Then 7, line n + 3.": of four crashes
     prints "n t\n4 3\nid vote crash reach\n1 1 1 0000\n2 1 1 0000\n3 1 1 0000\n4 1 1 0000\n5\n" "refused line\n9 8\n5\n" ∷
     prints "n t\n4 3\nid vote crash reach\n1 1 1 0000\n2 1 1 0000\n3 1 1 0000\n4 1 1 0000\n" "refused line\n7 7\n4 1 1 0000\n" ∷
