@@ -4,7 +4,7 @@ use mathlib.Core.Path.{_≡_, ap, ap₂, _∙_}
 use mathlib.Core.Logic.{inl, inr}
 use mathlib.Core.List.{List}
 use mathlib.Core.Bool.{Bool, true}
-use Prim.Native.Nat.{ℕ, _≤_}
+use Prim.Native.Nat.{ℕ, _≤_, _<_}
 use native.Mathlib.Omega.{arith}
 use borrow.Author.Tests.{eqb-true, eqb-false}
 use lib.ListN.{length, getD}
@@ -22,7 +22,7 @@ use Rattle.run.proofs.Theorem.{accepted-run}
 use Rattle.simulator.specs.declared.Counts.{Counts}
 use Rattle.simulator.specs.Answers.{countsOf, givenBy, simulateQuestion, simulateAnswer}
 use Rattle.text.specs.Output.{reportText}
-use Rattle.report.specs.Shown.{areDecisions, AllDecisions}
+use Rattle.report.specs.Shown.{areDecisions}
 use Rattle.report.proofs.Decisions as Decisions
 
 module _ (limit : ℕ) (s : Schedule) (decisions rounds : List ℕ) (passed : simulateQuestion limit s decisions rounds ≡ 0) where
@@ -43,7 +43,7 @@ module _ (s : Schedule) (limit : ℕ) (answers : Bool) (passed : question s limi
   pub rounds-long : length (report fcwfa s .rounds) ≡ s .n
   rounds-long = accepted-run s limit answers passed .reported .rounds-long
 
-  each-decision : AllDecisions (report fcwfa s .decisions)
+  each-decision : (i : ℕ) → i < length (report fcwfa s .decisions) → getD (report fcwfa s .decisions) i 0 ≤ 2
   each-decision i below =
       let reported = accepted-run s limit answers passed .reported in
       let long = reported .decisions-long in

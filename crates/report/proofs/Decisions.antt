@@ -2,7 +2,7 @@
 use mathlib.Core.Path.{_≡_}
 use mathlib.Core.List.{List, []}
 use mathlib.Core.Bool.{true, false}
-use Prim.Native.Nat.{ℕ}
+use Prim.Native.Nat.{ℕ, _≤_, _<_}
 use native.Mathlib.Omega.{arith}
 use borrow.Author.Tests.{eq-eqb, ne-eqb, eqb-true, leb-true, le-leb}
 use lib.ListN.{length, getD}
@@ -11,15 +11,16 @@ use Rattle.laws.proofs.Counting.{count-of-all, count-full}
 use Rattle.simulator.specs.declared.Counts.{Counts}
 use Rattle.simulator.specs.Answers.{givenBy}
 use Rattle.text.specs.Output.{reportText}
-use Rattle.report.specs.Shown.{areDecisions, shown, AllDecisions}
+use Rattle.report.specs.Shown.{areDecisions, shown}
 
-pub decisions-all : (decisions : List ℕ) → areDecisions decisions ≡ true → AllDecisions decisions
+-- a table passes the test where each of its entries does, both ways
+pub decisions-all : (decisions : List ℕ) → areDecisions decisions ≡ true → (i : ℕ) → i < length decisions → getD decisions i 0 ≤ 2
 unfolding areDecisions
 decisions-all decisions e i l =
     let full = eqb-true _ (length decisions) e in
     leb-true (getD decisions i 0) 2 (count-full (length decisions) (λ i. leb (getD decisions i 0) 2) (omega arith) i l)
 
-pub all-decisions : (decisions : List ℕ) → AllDecisions decisions → areDecisions decisions ≡ true
+pub all-decisions : (decisions : List ℕ) → ((i : ℕ) → i < length decisions → getD decisions i 0 ≤ 2) → areDecisions decisions ≡ true
 unfolding areDecisions
 all-decisions decisions h =
     eq-eqb _ (length decisions) (count-of-all (length decisions) (λ i. leb (getD decisions i 0) 2) (λ i l. le-leb (getD decisions i 0) 2 (h i l)))

@@ -1,5 +1,5 @@
 -- What is written of given counts and tables.
-use Prim.Native.Nat.{ℕ, _≤_, _<_}
+use Prim.Native.Nat.{ℕ}
 use mathlib.Core.List.{List, []}
 use mathlib.Core.Bool.{Bool, cond, _&&_}
 use lib.ListN.{length, getD}
@@ -19,7 +19,3 @@ shown t counts decisions rounds =
     cond (eqb (length rounds) (length decisions) && areDecisions decisions)
     (reportText (length decisions) t (givenBy counts decisions rounds))
     []
-
--- each of these is a decision. Only this crate's own functions ask for it.
-abbrev pub AllDecisions : List ℕ → Type 0
-AllDecisions decisions = (i : ℕ) → i < length decisions → getD decisions i 0 ≤ 2

@@ -6,12 +6,13 @@
 // `requires`. What is given is neither read nor run here.
 ghost use mathlib.Core.Path.{_≡_};
 ghost use mathlib.Core.List.{List};
+ghost use mathlib.Core.Bool.{true};
 ghost use Prim.Native.Nat.{ℕ, _+_, _^_, _≤_, _<_};
 ghost use lib.ListN.{length};
 ghost use Rattle.simulator.specs.Answers.{givenBy};
 ghost use Rattle.text.specs.Output.{decisionLetter, decisionLine, decisionLines, countsLine, reportText, refusalText};
 ghost use Rattle.buffer.specs.Buffer.{Writes};
-ghost use Rattle.report.specs.Shown.{AllDecisions, areDecisions, shown};
+ghost use Rattle.report.specs.Shown.{areDecisions, shown};
 use buffer::put;
 use buffer::put_byte;
 use buffer::put_field;
@@ -47,7 +48,7 @@ fn put_decision(buffer: &mut [u8], at: usize, i: usize, decision: u8, round: u8)
 // Writes the lines of the processes in order.
 fn put_decisions(buffer: &mut [u8], at: usize, decisions: &[u8], rounds: &[u8]) -> usize
     requires size { ⌜ length (now rounds) ≡ length (now decisions) ⌝ }
-    requires values { ⌜ AllDecisions (now decisions) ⌝ }
+    requires values { ⌜ areDecisions (now decisions) ≡ true ⌝ }
     ensures written { λ r. ⌜ Writes (now (buffer .entry)) at (now (buffer .exit)) r (decisionLines (length (now (decisions .entry))) (now (decisions .entry)) (now (rounds .entry))) ⌝ }
 {
     let mut next = at;
@@ -95,7 +96,7 @@ fn put_lines(
     rounds: &[u8],
 ) -> usize
     requires size { ⌜ length (now rounds) ≡ length (now decisions) ⌝ }
-    requires values { ⌜ AllDecisions (now decisions) ⌝ }
+    requires values { ⌜ areDecisions (now decisions) ≡ true ⌝ }
     ensures written { λ r. ⌜ Writes (now (buffer .entry)) at (now (buffer .exit)) r (reportText (length (now (decisions .entry))) t (givenBy counts (now (decisions .entry)) (now (rounds .entry)))) ⌝ }
 {
     let heading = put(buffer, at, b"n t f first last messages\n");

@@ -63,7 +63,7 @@ unfoldable pub refusalText : ℕ → ℕ → List ℕ → List ℕ
 refusalText number k line = refusedHeading ++ (field number space ++ (field k lf ++ (line ++ (lf ∷ []))))
 
 module _ (P : Protocol) (text : List ℕ) where
-  -- what is printed for a text that these are the answer of: under any protocol
+  -- what is printed for a text whose reading has this answer, under any protocol
   abbrev pub printed : Answer Schedule ℕ → List ℕ
   printed (accepted s) = reportText (s .n) (s .t) (report P s)
   printed (refused number k) = refusalText number k (lineOf k text)

@@ -11,6 +11,7 @@ use Rattle.text.specs.Written.{eachLine}
 use Rattle.text.specs.Output.{decisionLine, decisionLines}
 use Rattle.buffer.specs.Buffer.{Writes}
 use Rattle.buffer.proofs.Written.{writes-none, writes-same, writes-more}
+use Rattle.report.proofs.Decisions.{decisions-all}
 use Rattle.report.proofs.put_decisions.Statement.{statement}
 use Rattle.report.proofs.put_decisions.Tie as tie
 
@@ -46,7 +47,7 @@ put-decision-requires : tie.Need-put-decision-requires Inv-loop μ-loop
 put-decision-requires c κs =
     let k = c .before .before .before .before in
     let pre = k .before .before .before .before .pre in
-    (omega arith, pre .1 (k .loop .i) (omega arith))
+    (omega arith, decisions-all _ (pre .1) (k .loop .i) (omega arith))
 
 add-i : tie.Need-add-i Inv-loop μ-loop
 add-i c = omega arith

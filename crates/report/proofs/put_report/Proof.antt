@@ -7,7 +7,7 @@ use lib.ListN.{length}
 use Rattle.laws.proofs.Test.{was-false, was-true}
 use Rattle.buffer.proofs.Written.{writes-none, writes-same}
 use Rattle.report.specs.Shown.{areDecisions}
-use Rattle.report.proofs.Decisions.{decisions-all, shown-all, shown-lengths, shown-none}
+use Rattle.report.proofs.Decisions.{shown-all, shown-lengths, shown-none}
 use Rattle.report.proofs.put_report.Statement.{statement}
 use Rattle.report.proofs.put_report.Tie as tie
 
@@ -29,7 +29,7 @@ right : (c : tie.Else2) → areDecisions (c .before .before .before .before .bef
 right c = was-true (c .before .are-decisions .ensures) (c .if2 .left)
 
 put-lines-requires : tie.Need-put-lines-requires
-put-lines-requires c κs = (one-length (c .before .before .before), decisions-all _ (right (c .before)))
+put-lines-requires c κs = (one-length (c .before .before .before), right (c .before))
 
 same-length : tie.Need-same-length
 same-length c = search needs
