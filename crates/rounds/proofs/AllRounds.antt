@@ -59,7 +59,7 @@ module _ (s : Schedule) (ok : question s largest true ≡ 0) where
   same = crashSchedule (s .n) (s .crashes) (s .reaches)
 
   module _ {members : List Member} (r : ℕ) (h : Stand s r members) where
-    state-at : (i : ℕ) → i < s .n → stateAt fcwfa members i ≡ stateAt fcwfa (statesAfter fcwfa s r) i
+    state-at : (i : ℕ) → i < s .n → stateAt members i ≡ stateAt (statesAfter fcwfa s r) i
     unfolding after
     state-at i l = h .at i l
 
@@ -129,23 +129,23 @@ module _ (s : Schedule) (ok : question s largest true ≡ 0) where
 
 -- The end of the rounds is the end of the run.
 module _ (s : Schedule) {members : List Member} {sent-so-far r : ℕ} {speaking : Bool} (h : Playing s members sent-so-far r speaking) where
-  at-end : statesAfter fcwfa s (s .t + 1) ≡ statesAfter fcwfa s r → members ≡ tabulate largest (stateAt fcwfa (final fcwfa s))
+  at-end : statesAfter fcwfa s (s .t + 1) ≡ statesAfter fcwfa s r → members ≡ tabulate largest (stateAt (final fcwfa s))
   unfolding after final
   at-end e =
       let long = final-long s in
-      filled-whole (each-so (λ i x l q. q ∙ ap (λ (states : List Member). stateAt fcwfa states i) (sym e)) (h .states)) (h .rest)
+      filled-whole (each-so (λ i x l q. q ∙ ap (λ (states : List Member). stateAt states i) (sym e)) (h .states)) (h .rest)
       (λ i b. List·getD-eq-default (final fcwfa s) nobody (omega arith))
 
   counted-all : sum (s .t + 1) (sentAfter fcwfa s) ≡ sum r (sentAfter fcwfa s) → sent-so-far ≡ messages fcwfa s
   unfolding messages
   counted-all e = h .counted ∙ sym e
 
-  pub ends-silent : speaking ≡ false → (members ≡ tabulate largest (stateAt fcwfa (final fcwfa s))) × (sent-so-far ≡ messages fcwfa s)
+  pub ends-silent : speaking ≡ false → (members ≡ tabulate largest (stateAt (final fcwfa s))) × (sent-so-far ≡ messages fcwfa s)
   ends-silent e =
       let q = h .silent e in
       (at-end (q .states (s .t + 1) (h .inside)), counted-all (sum-ends (s .t + 1) r (sentAfter fcwfa s) (h .inside) (q .sends)))
 
-  pub ends-last : s .t + 1 ≤ r → (members ≡ tabulate largest (stateAt fcwfa (final fcwfa s))) × (sent-so-far ≡ messages fcwfa s)
+  pub ends-last : s .t + 1 ≤ r → (members ≡ tabulate largest (stateAt (final fcwfa s))) × (sent-so-far ≡ messages fcwfa s)
   ends-last l =
       let inside = h .inside in
       let e : s .t + 1 ≡ r = omega arith in

@@ -31,7 +31,7 @@ module _ (n round : ℕ) (crashes reaches : List ℕ) (members : List Member) wh
   pub silent-round : 1 ≤ n → length members ≡ largest → sum n (sent fcwfa s round members) ≡ 0 → Filled nobody largest n members (nextState fcwfa s round members)
   silent-round some long z = record { long = long; at = λ i l. sym (nothing-moves fcwfa s some mute-stops round members z i l) }
 
-  module _ {codes : List ℕ} (said : Filled 0 largest n codes (λ i. says (stateAt fcwfa members i))) where
+  module _ {codes : List ℕ} (said : Filled 0 largest n codes (λ i. says (stateAt members i))) where
     pub sent-is : {k : ℕ} → k ≡ sum n (λ j. sentBy n round (getD crashes j 0) (getD reaches j 0) (getD codes j 0)) → k ≡ sum n (sent fcwfa s round members)
     sent-is e = e ∙ sum-same n _ _ (λ j l. ap (sentBy n round (getD crashes j 0) (getD reaches j 0)) (said .at j l))
 
@@ -50,9 +50,9 @@ module _ (n round : ℕ) (crashes reaches : List ℕ) (members : List Member) wh
         row-at i l = row-is i l (rows .at i l)
 
         pub listen-is : AllListen n round crashes members (rowOf fcwfa s round members) → AllListen n round crashes members (λ i. take n (getD grid i []))
-        listen-is h i l c runs = ap (hearQuestion largest (stateAt fcwfa members i)) (row-at i l) ∙ h i l c runs
+        listen-is h i l c runs = ap (hearQuestion largest (stateAt members i)) (row-at i l) ∙ h i l c runs
 
-        pub next-is : {next : List Member} → Filled nobody largest n next (λ i. stateAfter fcwfa round (getD crashes i 0) (stateAt fcwfa members i) (take n (getD grid i [])))
+        pub next-is : {next : List Member} → Filled nobody largest n next (λ i. stateAfter fcwfa round (getD crashes i 0) (stateAt members i) (take n (getD grid i [])))
             → Filled nobody largest n next (nextState fcwfa s round members)
         unfolding nextState
-        next-is f = each-so (λ i x b e. e ∙ ap (stateAfter fcwfa round (getD crashes i 0) (stateAt fcwfa members i)) (row-at i b)) f
+        next-is f = each-so (λ i x b e. e ∙ ap (stateAfter fcwfa round (getD crashes i 0) (stateAt members i)) (row-at i b)) f

@@ -26,7 +26,7 @@ module _ (s : Schedule) (answers : Bool) {q : ℕ} (asked : q ≡ question s lar
       let refusing : question s largest answers ≡ 0 → ⊥ = λ z. other (asked ∙ z) in
       λ i. record {
         question = asked i;
-        members = (e ∙ sym (place-kept (question s largest answers) (tabulate largest (stateAt fcwfa (final fcwfa s))) (replicate largest nobody) refusing)) i;
+        members = (e ∙ sym (place-kept (question s largest answers) (tabulate largest (stateAt (final fcwfa s))) (replicate largest nobody) refusing)) i;
         messages = sym (place-kept (question s largest answers) (messages fcwfa s) 0 refusing) i;
       }
 
@@ -48,11 +48,11 @@ module _ (s : Schedule) (answers : Bool) {q : ℕ} (asked : q ≡ question s lar
           rules = a .rules;
         }
 
-    pub accepted-leaves : {members : List Member} {sent : ℕ} → members ≡ tabulate largest (stateAt fcwfa (final fcwfa s)) → sent ≡ messages fcwfa s
+    pub accepted-leaves : {members : List Member} {sent : ℕ} → members ≡ tabulate largest (stateAt (final fcwfa s)) → sent ≡ messages fcwfa s
         → _≡_ {A = Ran} (record { question = q; members = members; messages = sent }) (ranOf largest s answers)
     accepted-leaves e m =
         λ i. record {
           question = asked i;
-          members = (e ∙ sym (place-given (question s largest answers) (tabulate largest (stateAt fcwfa (final fcwfa s))) (replicate largest nobody) passed)) i;
+          members = (e ∙ sym (place-given (question s largest answers) (tabulate largest (stateAt (final fcwfa s))) (replicate largest nobody) passed)) i;
           messages = (m ∙ sym (place-given (question s largest answers) (messages fcwfa s) 0 passed)) i;
         }

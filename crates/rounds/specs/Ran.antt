@@ -18,6 +18,6 @@ use Rattle.rounds.specs.Rounds.{nobody}
 abbrev pub ranOf : ℕ → Schedule → Bool → Ran
 ranOf limit s answers = record {
   question = question s limit answers;
-  members = placeAfter (question s limit answers) (tabulate largest (stateAt fcwfa (final fcwfa s))) (replicate largest nobody);
+  members = placeAfter (question s limit answers) (tabulate largest (stateAt (final fcwfa s))) (replicate largest nobody);
   messages = placeAfter (question s limit answers) (messages fcwfa s) 0;
 }

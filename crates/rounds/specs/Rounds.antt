@@ -17,7 +17,7 @@ use Rattle.run.specs.Run.{completesRound, stateAt}
 
 -- what stands for a member past the end of an array, as in `stateAt`
 abbrev pub nobody : Member
-nobody = fcwfa .nobody
+nobody = nobody
 
 -- a schedule with these crashes: a round depends neither on t nor on the votes
 abbrev pub crashSchedule : ℕ → List ℕ → List ℕ → Schedule
@@ -29,7 +29,7 @@ AllOpen n t votes = (i : ℕ) → i < n → openQuestion largest n t (i + 1) (ge
 
 -- no saying of these members,
 abbrev pub AllSpeak : ℕ → List Member → Type 0
-AllSpeak n members = (i : ℕ) → i < n → sayQuestion largest (stateAt fcwfa members i) ≡ 0
+AllSpeak n members = (i : ℕ) → i < n → sayQuestion largest (stateAt members i) ≡ 0
 
 -- not the hearing of a member that completes the round and is not stopped,
 abbrev pub Listens : ℕ → ℕ → Member → List ℕ → Type 0
@@ -37,8 +37,8 @@ Listens round crash m row = completesRound round crash ≡ true → stopped m �
 
 -- and no hearing of these members, where row i is the row of process i.
 abbrev pub AllListen : ℕ → ℕ → List ℕ → List Member → (ℕ → List ℕ) → Type 0
-AllListen n round crashes members row = (i : ℕ) → i < n → Listens round (getD crashes i 0) (stateAt fcwfa members i) (row i)
+AllListen n round crashes members row = (i : ℕ) → i < n → Listens round (getD crashes i 0) (stateAt members i) (row i)
 
 -- these are the codes that the members say
 abbrev pub Said : ℕ → List ℕ → List Member → Type 0
-Said n codes members = (i : ℕ) → i < n → getD codes i 0 ≡ says (stateAt fcwfa members i)
+Said n codes members = (i : ℕ) → i < n → getD codes i 0 ≡ says (stateAt members i)

@@ -29,7 +29,7 @@ use sets::zero_bytes;
 fn codes_said(n: usize, members: [Member; WIDTH]) -> [u8; WIDTH]
     requires size { ⌜ n ≤ largest ⌝ }
     requires speak { ⌜ AllSpeak n members ⌝ }
-    ensures said { λ r. ⌜ Filled 0 largest n r (λ i. says (stateAt fcwfa members i)) ⌝ }
+    ensures said { λ r. ⌜ Filled 0 largest n r (λ i. says (stateAt members i)) ⌝ }
 {
     let mut codes = zero_bytes();
     let mut i: usize = 0;
@@ -86,7 +86,7 @@ fn hear_rows(
     requires long { ⌜ Each [] largest n (now grid) (λ _ row. length row ≡ largest) ⌝ }
     requires said { ⌜ Said n codes members ⌝ }
     requires listen { ⌜ AllListen n round (now crashes) members (λ i. take n (getD (now grid) i [])) ⌝ }
-    ensures next { λ r. ⌜ Filled nobody largest n r (λ i. stateAfter fcwfa round (getD (now (crashes .entry)) i 0) (stateAt fcwfa members i) (take n (getD (now (grid .entry)) i []))) ⌝ }
+    ensures next { λ r. ⌜ Filled nobody largest n r (λ i. stateAfter fcwfa round (getD (now (crashes .entry)) i 0) (stateAt members i) (take n (getD (now (grid .entry)) i []))) ⌝ }
     ensures rest { λ r. ⌜ BlankFrom nobody n r ⌝ }
 {
     let mut next = members;
@@ -145,7 +145,7 @@ fn play_round(
 // The run of an accepted schedule: rounds 1 to t + 1, up to the first in which nothing is sent.
 pub fn play(n: usize, t: usize, votes: &[u8], crashes: &[u8], reaches: &[Set]) -> Played
     requires accepted { ⌜ question (scheduleOf n t (now votes) (now crashes) (now reaches)) largest true ≡ 0 ⌝ }
-    ensures ended { λ r. ⌜ r .members ≡ tabulate largest (stateAt fcwfa (final fcwfa (scheduleOf n t (now (votes .entry)) (now (crashes .entry)) (now (reaches .entry))))) ⌝ }
+    ensures ended { λ r. ⌜ r .members ≡ tabulate largest (stateAt (final fcwfa (scheduleOf n t (now (votes .entry)) (now (crashes .entry)) (now (reaches .entry))))) ⌝ }
     ensures counted { λ r. ⌜ r .messages ≡ Report·messages fcwfa (scheduleOf n t (now (votes .entry)) (now (crashes .entry)) (now (reaches .entry))) ⌝ }
 {
     let mut members = start_all(n, t, votes);

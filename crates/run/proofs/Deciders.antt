@@ -126,7 +126,7 @@ module _ (R : ℕ → ℕ) where
 
 module _ (s : Schedule) (ok : Rules s) where
   abbrev ends : ℕ → ℕ
-  ends = roundOf fcwfa (final fcwfa s)
+  ends = roundOf (final fcwfa s)
 
   -- a process that never crashes decides
   some-decides : Some (s .n) λ i. ends i ≢ 0

@@ -30,7 +30,7 @@ use Rattle.run.proofs.FcwfaRun.{runWorld, laws, rules}
 
 module _ (s : Schedule) (ok : Rules s) where
   -- the end of the run is the state after round t + 1
-  pub end-is : (i : ℕ) → stateAt fcwfa (final fcwfa s) i ≡ after fcwfa s (suc (s .t)) i
+  pub end-is : (i : ℕ) → stateAt (final fcwfa s) i ≡ after fcwfa s (suc (s .t)) i
   unfolding final after
   end-is i = ap (λ r. after fcwfa s r i) (add-one (s .t))
 

@@ -35,7 +35,7 @@ module _ (s : Schedule) (ok : Rules s) where
         | inl z ↦ absurd (omega arith)
         | inr made ↦
             let h = made .high in
-            let d : Decides fcwfa s i (stateAt fcwfa (final fcwfa s) i .estimate) (stateAt fcwfa (final fcwfa s) i .decided) =
+            let d : Decides fcwfa s i (stateAt (final fcwfa s) i .estimate) (stateAt (final fcwfa s) i .decided) =
             record { process = l; round = refl; not-none = λ z. omega arith; value = refl } in
             record { value = _; in-round = _; gives = gives _ _ _ d; by = omega arith }
       ]

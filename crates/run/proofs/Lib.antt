@@ -20,6 +20,7 @@ pub mod Reported
 pub mod Given
 pub mod Deciders
 pub mod NoneRefused
+pub mod OwnAnswers
 pub mod Silence
 pub mod Theorem
 pub mod Vectors

@@ -153,7 +153,7 @@ module _ (s : Schedule) (ok : Rules s) where
               id-is = rw h (p .id-kept ∙ a .id-is);
             }
 
-    pub none-refused : NoneRefused limit s
+    pub none-refused : NoneRefused fcwfa limit s
     unfolding sayQuestion ask
     none-refused = record {
       opens = opens-well;

@@ -9,10 +9,11 @@ use borrow.Author.Tests.{eq-eqb, ne-eqb}
 use Rattle.laws.proofs.Test.{cond-true, cond-false}
 use Rattle.laws.proofs.Counting.{split}
 use Rattle.laws.proofs.Lists.{length-tabulate, getD-tabulate}
+use Rattle.member.specs.declared.Member.{Member}
 use Rattle.schedule.specs.Schedule.{Schedule}
 use Rattle.schedule.specs.Questions.{Rules}
 use Rattle.schedule.proofs.Crashes.{all-crashes}
-use Rattle.run.specs.Protocol.{fcwfa}
+use Rattle.run.specs.Protocol.{fcwfa, nobody}
 use Rattle.run.specs.Run.{stateAt, final}
 use Rattle.run.specs.Report.{roundOf, decisionOf, report}
 use Rattle.run.specs.Facts.{Reported}
@@ -27,33 +28,33 @@ module _ (s : Schedule) where
   unfolding final
   final-long = states-long fcwfa s (s .t + 1)
 
-  pub rounds-read : (i : ℕ) → getD (report fcwfa s .rounds) i 0 ≡ roundOf fcwfa (final fcwfa s) i
+  pub rounds-read : (i : ℕ) → getD (report fcwfa s .rounds) i 0 ≡ roundOf (final fcwfa s) i
   rounds-read i =
       elim (split (s .n) i) [
         | inl a ↦
-            let e = length-tabulate (s .n) (roundOf fcwfa (final fcwfa s)) in
+            let e = length-tabulate (s .n) (roundOf (final fcwfa s)) in
             let f = final-long in
-            List·getD-eq-default (report fcwfa s .rounds) 0 (omega arith) ∙ sym (ap (fcwfa .decided) (List·getD-eq-default (final fcwfa s) (fcwfa .nobody) (omega arith)))
-        | inr a ↦ getD-tabulate (s .n) (roundOf fcwfa (final fcwfa s)) i 0 a
+            List·getD-eq-default (report fcwfa s .rounds) 0 (omega arith) ∙ sym (ap (λ (m : Member). m .decided) (List·getD-eq-default (final fcwfa s) (nobody) (omega arith)))
+        | inr a ↦ getD-tabulate (s .n) (roundOf (final fcwfa s)) i 0 a
       ]
 
 module _ (s : Schedule) (ok : Rules s) where
   abbrev ended : ℕ → ℕ
-  ended = roundOf fcwfa (final fcwfa s)
+  ended = roundOf (final fcwfa s)
 
   abbrev value : ℕ → ℕ
-  value i = stateAt fcwfa (final fcwfa s) i .estimate
+  value i = stateAt (final fcwfa s) i .estimate
 
   round-at : (i : ℕ) → i < s .n → getD (report fcwfa s .rounds) i 0 ≡ ended i
   round-at i l = rounds-read s i
 
   decided-at : (i : ℕ) → i < s .n → ended i ≢ 0 → getD (report fcwfa s .decisions) i 2 ≡ value i
   unfolding decisionOf
-  decided-at i l d = getD-tabulate (s .n) (decisionOf fcwfa (final fcwfa s)) i 2 l ∙ cond-false (eqb (ended i) 0) _ (value i) (ne-eqb (ended i) 0 d)
+  decided-at i l d = getD-tabulate (s .n) (decisionOf (final fcwfa s)) i 2 l ∙ cond-false (eqb (ended i) 0) _ (value i) (ne-eqb (ended i) 0 d)
 
   undecided-at : (i : ℕ) → i < s .n → ended i ≡ 0 → getD (report fcwfa s .decisions) i 2 ≡ 2
   unfolding decisionOf
-  undecided-at i l z = getD-tabulate (s .n) (decisionOf fcwfa (final fcwfa s)) i 2 l ∙ cond-true (eqb (ended i) 0) 2 _ (eq-eqb (ended i) 0 z)
+  undecided-at i l z = getD-tabulate (s .n) (decisionOf (final fcwfa s)) i 2 l ∙ cond-true (eqb (ended i) 0) 2 _ (eq-eqb (ended i) 0 z)
 
   value-low : (i : ℕ) → i < s .n → value i ≤ 1
   value-low i l =
@@ -64,7 +65,7 @@ module _ (s : Schedule) (ok : Rules s) where
   pub reported : Reported s
   reported = record {
     crashes = sym (all-crashes s ok);
-    decisions-long = length-tabulate (s .n) (decisionOf fcwfa (final fcwfa s));
+    decisions-long = length-tabulate (s .n) (decisionOf (final fcwfa s));
     rounds-long = length-tabulate (s .n) ended;
     decided = λ i v r d.
         let l = d .process in

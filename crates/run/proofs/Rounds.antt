@@ -13,6 +13,7 @@ use borrow.Author.Tests.{eqb-true, eqb-false, eq-eqb, ne-eqb, ltb-true, lt-ltb, 
 use Rattle.laws.proofs.Test.{true-or-false, and-both, and-no-left, and-no-right, or-left, or-right, or-true, or-neither, cond-true, cond-false}
 use Rattle.laws.proofs.Counting.{split}
 use Rattle.laws.proofs.Lists.{length-tabulate, getD-tabulate}
+use Rattle.member.specs.declared.Member.{Member}
 use Rattle.member.specs.Saying.{nothing}
 use Rattle.sets.specs.Sets.{names}
 use Rattle.schedule.specs.Schedule.{Schedule, voteOf, crashOf, reachOf}
@@ -73,7 +74,7 @@ module _ (n r c reach code : ℕ) where
   sends-no-more h e before = cond-false _ 0 _ (ne-eqb code nothing h) ∙ cond-false (completesRound r c) _ _ e ∙ cond-false (eqb c r) _ 0 (ne-eqb c r before)
 
 -- what a process with this crash round does in round r, from its state and its row
-module _ (P : Protocol) (r c : ℕ) (state : P .State) (row : List ℕ) where
+module _ (P : Protocol) (r c : ℕ) (state : Member) (row : List ℕ) where
   pub crashed-stays : completesRound r c ≡ false → stateAfter P r c state row ≡ state
   unfolding stateAfter
   crashed-stays e = cond-false (completesRound r c && not (P .stopped state)) (P .hears state row) state (and-no-left (completesRound r c) _ e)
@@ -87,9 +88,9 @@ module _ (P : Protocol) (r c : ℕ) (state : P .State) (row : List ℕ) where
   other-moves h e = cond-true (completesRound r c && not (P .stopped state)) (P .hears state row) state (and-both (completesRound r c) _ h (ap not e))
 
 module _ (P : Protocol) (s : Schedule) where
-  module _ (r : ℕ) (states : List (P .State)) (j : ℕ) where
+  module _ (r : ℕ) (states : List (Member)) (j : ℕ) where
     abbrev said : ℕ
-    said = P .says (stateAt P states j)
+    said = P .says (stateAt states j)
 
     module _ (i : ℕ) where
       unnamed-not : r ≢ 0 → crashOf s j ≡ r → names (reachOf s j) i ≡ false → isHeard r i (crashOf s j) (reachOf s j) ≡ false

@@ -10,6 +10,7 @@ use borrow.Author.Tests.{eqb-true, eqb-false}
 use Rattle.laws.specs.Below.{tabulate}
 use Rattle.laws.proofs.Test.{true-or-false}
 use Rattle.laws.proofs.Counting.{split}
+use Rattle.member.specs.declared.Member.{Member}
 use Rattle.sets.specs.Sets.{names}
 use Rattle.schedule.specs.Schedule.{Schedule, voteOf, reachOf}
 use Rattle.schedule.specs.Questions.{Rules}
@@ -34,8 +35,8 @@ module _ (P : Protocol) (s : Schedule) where
     t = s .t;
     start = start;
     crash = crashRound s;
-    estimate = λ r i. P .estimate (after P s r i);
-    decided = λ r i. P .decided (after P s r i);
+    estimate = λ r i. after P s r i .estimate;
+    decided = λ r i. after P s r i .decided;
     code = codeOf;
   }
 
@@ -44,7 +45,7 @@ module _ (P : Protocol) (s : Schedule) where
   row-is r i = refl
 
   -- the state that stands at a place after r rounds
-  pub state-is : (r i : ℕ) → stateAt P (statesAfter P s r) i ≡ after P s r i
+  pub state-is : (r i : ℕ) → stateAt (statesAfter P s r) i ≡ after P s r i
   unfolding after
   state-is r i = refl
 
@@ -63,9 +64,9 @@ module _ (P : Protocol) (s : Schedule) where
       who-moves P s r i l .hears (record { process = l; completed = living s (suc r) i a }) e ∙ ap (P .hears (after P s r i)) (row-is r i)
 
   same : (start r i : ℕ) → after P s (suc r) i ≡ after P s r i → Kept (world start) r i
-  same start r i e = record { estimate-is = ap (P .estimate) e; decided-is = ap (P .decided) e }
+  same start r i e = record { estimate-is = ap (λ (m : Member). m .estimate) e; decided-is = ap (λ (m : Member). m .decided) e }
 
-module _ (P : Protocol) (start : ℕ) (At : ℕ → ℕ → ℕ → P .State → Type 0) (behaves : Behaves P start At) (s : Schedule) where
+module _ (P : Protocol) (start : ℕ) (At : ℕ → ℕ → ℕ → Member → Type 0) (behaves : Behaves P start At) (s : Schedule) where
   -- who has completed round r stands there
   pub stands : (r : ℕ) → r ≤ suc (s .t) → (i : ℕ) → i < s .n → r < crashRound s i → At (s .n) (s .t) r (after P s r i)
   stands zero rt i l a = rw (opens-as P s i l) (behaves .opens-at (s .n) (s .t) (i + 1) (voteOf s i))
@@ -105,7 +106,7 @@ module _ (P : Protocol) (start : ℕ) (At : ℕ → ℕ → ℕ → P .State →
           ]
       go (gone lo hi) = let a = round-crash s j (λ z. omega arith) in hears-nothing (facts .silent lo hi) (λ b. absurd (omega arith))
 
-  kept-is : (r i : ℕ) → r ≤ s .t → i < s .n → 0 < P .decided (after P s r i) → Kept (world P s start) r i
+  kept-is : (r i : ℕ) → r ≤ s .t → i < s .n → 0 < after P s r i .decided → Kept (world P s start) r i
   kept-is r i rt l d =
       elim (split (crashRound s i) (suc r)) [
         | inl a ↦ same P s start r i (keeps-state P s r i rt l a)
@@ -115,7 +116,7 @@ module _ (P : Protocol) (start : ℕ) (At : ℕ → ℕ → ℕ → P .State →
               | inr e ↦
                   let h = hears-row P s r i l a e in
                   let k = behaves .kept (after P s r i) (tabulate (s .n) (codeOf P s r i)) d in
-                  record { estimate-is = ap (P .estimate) h ∙ k .0; decided-is = ap (P .decided) h ∙ k .1 }
+                  record { estimate-is = ap (λ (m : Member). m .estimate) h ∙ k .0; decided-is = ap (λ (m : Member). m .decided) h ∙ k .1 }
             ]
       ]
 
@@ -128,7 +129,7 @@ module _ (P : Protocol) (start : ℕ) (At : ℕ → ℕ → ℕ → P .State →
   hearing r i o =
       let rt : r ≤ s .t = o .time in
       let a : suc r < crashRound s i = o .alive in
-      let u : P .decided (after P s r i) ≡ 0 = o .undecided in
+      let u : after P s r i .decided ≡ 0 = o .undecided in
       record {
         at = stands r (omega arith) i (o .process) (omega arith);
         next =
@@ -145,16 +146,16 @@ module _ (P : Protocol) (start : ℕ) (At : ℕ → ℕ → ℕ → P .State →
     t-high = ok .t-high;
     few = let a = crashes-all s ok in let b = ok .few in omega arith;
     opens-bit = λ i l.
-        let e = ap (P .estimate) (opens-as P s i l) ∙ behaves .opens-with (s .n) (s .t) (i + 1) (voteOf s i) in
+        let e = ap (λ (m : Member). m .estimate) (opens-as P s i l) ∙ behaves .opens-with (s .n) (s .t) (i + 1) (voteOf s i) in
         let v = ok .process i l .vote in
         omega arith;
-    opens-undecided = λ i l. ap (P .decided) (opens-as P s i l) ∙ behaves .opens-undecided (s .n) (s .t) (i + 1) (voteOf s i);
+    opens-undecided = λ i l. ap (λ (m : Member). m .decided) (opens-as P s i l) ∙ behaves .opens-undecided (s .n) (s .t) (i + 1) (voteOf s i);
     heard = heard-is;
     out = λ r i rt l a. same P s start r i (keeps-state P s r i rt l a);
     kept = kept-is;
     moves = λ r i o.
         let g = hearing r i o in
-        let e = ap (P .decided) (g .next) in
+        let e = ap (λ (m : Member). m .decided) (g .next) in
         elim (behaves .moves (s .n) (s .t) r (after P s r i) (tabulate (s .n) (codeOf P s r i)) (g .at) (o .undecided)) [ inl z ↦ inl (e ∙ z) | inr z ↦ inr (e ∙ z) ];
     never-rises = λ r i o low.
         let g = hearing r i o in
@@ -167,11 +168,11 @@ module _ (P : Protocol) (start : ℕ) (At : ℕ → ℕ → ℕ → P .State →
         rw (g .next) (behaves .lowers (s .n) (s .t) r (after P s r i) (codeOf P s r i) (g .at) (o .undecided) sr low);
     ends = λ i o.
         let g = hearing (s .t) i o in
-        ap (P .decided) (g .next) ∙ behaves .ends (s .n) (s .t) (after P s (s .t) i) (tabulate (s .n) (codeOf P s (s .t) i)) (ok .t-low) (g .at) (o .undecided);
+        ap (λ (m : Member). m .decided) (g .next) ∙ behaves .ends (s .n) (s .t) (after P s (s .t) i) (tabulate (s .n) (codeOf P s (s .t) i)) (ok .t-low) (g .at) (o .undecided);
   }
 
-  pub vote-is : (i : ℕ) → i < s .n → P .estimate (after P s 0 i) ≡ voteOf s i
-  vote-is i l = ap (P .estimate) (opens-as P s i l) ∙ behaves .opens-with (s .n) (s .t) (i + 1) (voteOf s i)
+  pub vote-is : (i : ℕ) → i < s .n → after P s 0 i .estimate ≡ voteOf s i
+  vote-is i l = ap (λ (m : Member). m .estimate) (opens-as P s i l) ∙ behaves .opens-with (s .n) (s .t) (i + 1) (voteOf s i)
 
   -- What one sender adds in round r + 1: at most n; and only a process adds that has completed round r and is undecided or decided in it.
   abbrev pub sentOf : ℕ → ℕ → ℕ
@@ -183,13 +184,13 @@ module _ (P : Protocol) (start : ℕ) (At : ℕ → ℕ → ℕ → P .State →
   -- whether it says something
   data Speaks (r j : ℕ) : Type 0 where
     mute : sentOf r j ≡ 0 → Speaks r j
-    spoke : P .says (stateAt P (statesAfter P s r) j) ≢ 0 → Speaks r j
+    spoke : P .says (stateAt (statesAfter P s r) j) ≢ 0 → Speaks r j
 
   speaks : (r j : ℕ) → Speaks r j
   speaks r j =
-      elim (true-or-false (eqb (P .says (stateAt P (statesAfter P s r) j)) 0)) [
-        | inl z ↦ mute (sent-facts r j .says-nothing (eqb-true (P .says (stateAt P (statesAfter P s r) j)) 0 z))
-        | inr z ↦ spoke (eqb-false (P .says (stateAt P (statesAfter P s r) j)) 0 z)
+      elim (true-or-false (eqb (P .says (stateAt (statesAfter P s r) j)) 0)) [
+        | inl z ↦ mute (sent-facts r j .says-nothing (eqb-true (P .says (stateAt (statesAfter P s r) j)) 0 z))
+        | inr z ↦ spoke (eqb-false (P .says (stateAt (statesAfter P s r) j)) 0 z)
       ]
 
   pub sent-high : Rules s → (r j : ℕ) → j < s .n → sentOf r j ≤ s .n
@@ -205,11 +206,11 @@ module _ (P : Protocol) (start : ℕ) (At : ℕ → ℕ → ℕ → P .State →
       go (spoke h) (gone lo hi) = let e = sent-facts r j .silent lo hi in omega arith
 
   pub sent-by : (r j : ℕ) → r ≤ s .t → j < s .n → 0 < sentOf r j
-      → (r < crashRound s j) × ((P .decided (after P s r j) ≡ 0) ⊎ (P .decided (after P s r j) ≡ r))
+      → (r < crashRound s j) × ((after P s r j .decided ≡ 0) ⊎ (after P s r j .decided ≡ r))
   sent-by r j rt jl p = go (speaks r j) (part s (suc r) j)
     where
-      spoken : P .says (stateAt P (statesAfter P s r) j) ≢ 0 → r < crashRound s j
-          → (r < crashRound s j) × ((P .decided (after P s r j) ≡ 0) ⊎ (P .decided (after P s r j) ≡ r))
+      spoken : P .says (stateAt (statesAfter P s r) j) ≢ 0 → r < crashRound s j
+          → (r < crashRound s j) × ((after P s r j .decided ≡ 0) ⊎ (after P s r j .decided ≡ r))
       spoken h a = (
         a,
         elim (phase-at r rt j jl a) [
@@ -219,7 +220,7 @@ module _ (P : Protocol) (start : ℕ) (At : ℕ → ℕ → ℕ → P .State →
         ],
       )
 
-      go : Speaks r j → Part s (suc r) j → (r < crashRound s j) × ((P .decided (after P s r j) ≡ 0) ⊎ (P .decided (after P s r j) ≡ r))
+      go : Speaks r j → Part s (suc r) j → (r < crashRound s j) × ((after P s r j .decided ≡ 0) ⊎ (after P s r j .decided ≡ r))
       go (mute z) _ = absurd (omega arith)
       go (spoke h) (completing c) = spoken h (let a = alive s (suc r) j (omega arith) c in omega arith)
       go (spoke h) (crashing q) = spoken h (let a = round-crash s j (λ z. omega arith) in omega arith)

@@ -17,19 +17,19 @@ use Rattle.member.specs.declared.Member.{Member}
 use Rattle.member.specs.State.{undecided, stopped}
 use Rattle.member.specs.Saying.{nothing, estimateCode, decidedCode, says}
 use Rattle.schedule.specs.Schedule.{Schedule}
-use Rattle.run.specs.Protocol.{Protocol}
+use Rattle.run.specs.Protocol.{Protocol, nobody}
 use Rattle.run.specs.Run.{completes, stateAt, nextState, statesAfter, after}
 use Rattle.run.specs.Report.{sent, sentAfter}
 use Rattle.run.specs.Facts.{SilentFrom}
 use Rattle.run.proofs.Rounds.{completes-if, if-completes, completing, crashing, gone, part, what-is-sent, crashed-stays, stopped-stays, states-long, who-moves}
 use Rattle.run.proofs.RunWorld.{state-is}
 
-module _ (P : Protocol) (s : Schedule) (some : 0 < s .n) (mute : (m : P .State) → P .says m ≡ nothing → P .stopped m ≡ true) where
+module _ (P : Protocol) (s : Schedule) (some : 0 < s .n) (mute : (m : Member) → P .says m ≡ nothing → P .stopped m ≡ true) where
   -- whoever completes a round in which nothing is sent has nothing to say
-  nothing-to-say : (r : ℕ) (states : List (P .State)) → sum (s .n) (sent P s r states) ≡ 0 → (i : ℕ) → i < s .n → completes s r i ≡ true
-      → P .says (stateAt P states i) ≡ nothing
+  nothing-to-say : (r : ℕ) (states : List (Member)) → sum (s .n) (sent P s r states) ≡ 0 → (i : ℕ) → i < s .n → completes s r i ≡ true
+      → P .says (stateAt states i) ≡ nothing
   nothing-to-say r states z i l c =
-      elim (true-or-false (eqb (P .says (stateAt P states i)) nothing)) [
+      elim (true-or-false (eqb (P .says (stateAt states i)) nothing)) [
         | inl e ↦ eqb-true _ _ e
         | inr e ↦
             let adds = what-is-sent P s r states i .completing (eqb-false _ _ e) (record { process = l; completed = c }) in
@@ -38,7 +38,7 @@ module _ (P : Protocol) (s : Schedule) (some : 0 < s .n) (mute : (m : P .State) 
       ]
 
   -- so such a round leaves every state as it is
-  pub nothing-moves : (r : ℕ) (states : List (P .State)) → sum (s .n) (sent P s r states) ≡ 0 → (i : ℕ) → i < s .n → nextState P s r states i ≡ stateAt P states i
+  pub nothing-moves : (r : ℕ) (states : List (Member)) → sum (s .n) (sent P s r states) ≡ 0 → (i : ℕ) → i < s .n → nextState P s r states i ≡ stateAt states i
   unfolding nextState
   nothing-moves r states z i l =
       elim (true-or-false (completes s r i)) [
@@ -83,7 +83,7 @@ module _ (P : Protocol) (s : Schedule) (some : 0 < s .n) (mute : (m : P .State) 
 
     states-same : statesAfter P s (suc r) ≡ statesAfter P s r
     states-same =
-        ext-getD (P .nobody) _ _ (states-long P s (suc r) ∙ sym (states-long P s r))
+        ext-getD (nobody) _ _ (states-long P s (suc r) ∙ sym (states-long P s r))
         (λ i b. let e = states-long P s (suc r) in state-is P s (suc r) i ∙ keeps i (omega arith) ∙ sym (state-is P s r i))
 
   -- what holds after k rounds

@@ -14,6 +14,7 @@ use Rattle.run.proofs.Demand.{demand-3, by-crashes-so-far}
 use Rattle.run.proofs.Deciders.{deciders}
 use Rattle.run.proofs.Reported.{reported}
 use Rattle.run.proofs.NoneRefused.{none-refused}
+use Rattle.run.proofs.OwnAnswers.{own-answers}
 use Rattle.run.proofs.Given.{given-demand-3}
 use Rattle.run.proofs.Silence.{silent-from, mute-stops}
 
@@ -35,6 +36,7 @@ accepted-run s limit answers e =
       reported = reported s (a .rules);
       deciders = deciders s (a .rules);
       none-refused = none-refused s (a .rules) limit (a .n-high);
+      own-answers = own-answers fcwfa limit s (none-refused s (a .rules) limit (a .n-high));
       silence = let low = a .n-low in silent-from fcwfa s (omega arith) mute-stops;
       given-demand-3 = given-demand-3 s (a .rules);
     }

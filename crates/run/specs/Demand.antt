@@ -19,14 +19,14 @@ module _ (P : Protocol) (s : Schedule) where
   -- "A process decides v in round r if at the end of the run its decided round is r, not 0, and its estimate is v."
   pub record Decides (i v r : ℕ) : Type 0 where
     pub process : i < s .n
-    pub round : roundOf P (final P s) i ≡ r
+    pub round : roundOf (final P s) i ≡ r
     pub not-none : r ≢ 0
-    pub value : P .estimate (stateAt P (final P s) i) ≡ v
+    pub value : stateAt (final P s) i .estimate ≡ v
 
   -- "It completes round r undecided if it completes the round and its decided round is still 0 after it."
   pub record CompletesUndecided (r i : ℕ) : Type 0 where
     pub completes-it : Completes s r i
-    pub undecided : P .decided (after P s r i) ≡ 0
+    pub undecided : after P s r i .decided ≡ 0
 
 -- round B of f crashes of t allowed: "B = f + 2 if f ≤ t − 2 and f + 1 otherwise"
 unfoldable pub roundB : ℕ → ℕ → ℕ

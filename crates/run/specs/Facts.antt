@@ -1,5 +1,5 @@
 -- What holds of every run besides demand 3: what its definitions come to, process by process, and the facts that the bench and its readers rely
--- on. Proved in proofs/Rounds.antt, Demand.antt, Deciders.antt, Reported.antt, NoneRefused.antt and Silence.antt. Assumes nothing.
+-- on. Proved in proofs/Rounds.antt, Demand.antt, Deciders.antt, Reported.antt, NoneRefused.antt, OwnAnswers.antt and Silence.antt. Assumes nothing.
 use Prim.Native.Nat.{ℕ, suc, _+_, _-_, _≤_, _<_}
 use mathlib.Core.Path.{_≡_}
 use mathlib.Core.Logic.{_≢_}
@@ -7,13 +7,11 @@ use mathlib.Core.List.{List}
 use mathlib.Core.Bool.{true, false}
 use lib.ListN.{length, getD}
 use lib.Count.{ones}
-use Rattle.member.specs.Opening.{openQuestion}
-use Rattle.member.specs.State.{stopped}
+use Rattle.member.specs.declared.Member.{Member}
 use Rattle.member.specs.Saying.{nothing}
-use Rattle.member.specs.Questions.{sayQuestion, hearQuestion}
 use Rattle.sets.specs.Sets.{names}
 use Rattle.schedule.specs.Schedule.{Schedule, voteOf, crashOf, reachOf, crashedBy}
-use Rattle.run.specs.Protocol.{Protocol, fcwfa}
+use Rattle.run.specs.Protocol.{Protocol, fcwfa, byCalls}
 use Rattle.run.specs.Run.{stateAt, codeHeard, rowOf, statesAfter, after, final}
 use Rattle.run.specs.Report.{roundOf, before, sent, sentAfter, report}
 use Rattle.run.specs.Demand.{Completes, Decides, CompletesUndecided, SomeVotedZero, Demand3}
@@ -21,22 +19,22 @@ use Rattle.run.specs.Given.{GivenDemand3}
 
 module _ (P : Protocol) (s : Schedule) where
   -- Who hears whom in round r, whatever the states at its start: what i hears from j.
-  pub record WhoHearsWhom (r : ℕ) (states : List (P .State)) (i j : ℕ) : Type 0 where
+  pub record WhoHearsWhom (r : ℕ) (states : List (Member)) (i j : ℕ) : Type 0 where
     -- what j says, if j never crashes or crashes in a later round; so a process that completes the round hears itself
-    pub completing : Completes s r j → codeHeard P s r states i j ≡ P .says (stateAt P states j)
+    pub completing : Completes s r j → codeHeard P s r states i j ≡ P .says (stateAt states j)
     -- what j says, if j crashes in this round and its reach names i
-    pub named : crashOf s j ≡ r → names (reachOf s j) i ≡ true → codeHeard P s r states i j ≡ P .says (stateAt P states j)
+    pub named : crashOf s j ≡ r → names (reachOf s j) i ≡ true → codeHeard P s r states i j ≡ P .says (stateAt states j)
     -- nothing, if j crashes in this round, not 0, and its reach does not name i
     pub unnamed : r ≢ 0 → crashOf s j ≡ r → names (reachOf s j) i ≡ false → codeHeard P s r states i j ≡ nothing
     -- nothing, if j crashed before
     pub silent : 1 ≤ crashOf s j → crashOf s j < r → codeHeard P s r states i j ≡ nothing
 
   -- What sender j adds to the messages of round r, whatever the states at its start.
-  pub record WhatIsSent (r : ℕ) (states : List (P .State)) (j : ℕ) : Type 0 where
+  pub record WhatIsSent (r : ℕ) (states : List (Member)) (j : ℕ) : Type 0 where
     -- nothing, if it says nothing; n, if it completes the round; the ones of its reach, if it crashes in the round; nothing, if it crashed before
-    pub says-nothing : P .says (stateAt P states j) ≡ nothing → sent P s r states j ≡ 0
-    pub completing : P .says (stateAt P states j) ≢ nothing → Completes s r j → sent P s r states j ≡ s .n
-    pub crashing : P .says (stateAt P states j) ≢ nothing → r ≢ 0 → crashOf s j ≡ r → sent P s r states j ≡ ones (reachOf s j)
+    pub says-nothing : P .says (stateAt states j) ≡ nothing → sent P s r states j ≡ 0
+    pub completing : P .says (stateAt states j) ≢ nothing → Completes s r j → sent P s r states j ≡ s .n
+    pub crashing : P .says (stateAt states j) ≢ nothing → r ≢ 0 → crashOf s j ≡ r → sent P s r states j ≡ ones (reachOf s j)
     pub silent : 1 ≤ crashOf s j → crashOf s j < r → sent P s r states j ≡ 0
 
   -- What process i does in round r + 1.
@@ -80,15 +78,15 @@ pub record Reported (s : Schedule) : Type 0 where
 pub record FirstIs (s : Schedule) (i : ℕ) : Type 0 where
   pub reported : report fcwfa s .first ≡ i + 1
   pub process : i < s .n
-  pub decides : roundOf fcwfa (final fcwfa s) i ≢ 0
-  pub goes-before : (k : ℕ) → k < s .n → k ≢ i → roundOf fcwfa (final fcwfa s) k ≢ 0 → before (roundOf fcwfa (final fcwfa s)) i k ≡ true
+  pub decides : roundOf (final fcwfa s) i ≢ 0
+  pub goes-before : (k : ℕ) → k < s .n → k ≢ i → roundOf (final fcwfa s) k ≢ 0 → before (roundOf (final fcwfa s)) i k ≡ true
 
 -- process i is one that decides in the reported last round, and none decides later
 pub record LastIs (s : Schedule) (i : ℕ) : Type 0 where
-  pub reported : report fcwfa s .last ≡ roundOf fcwfa (final fcwfa s) i
+  pub reported : report fcwfa s .last ≡ roundOf (final fcwfa s) i
   pub process : i < s .n
-  pub decides : roundOf fcwfa (final fcwfa s) i ≢ 0
-  pub latest : (k : ℕ) → k < s .n → roundOf fcwfa (final fcwfa s) k ≤ report fcwfa s .last
+  pub decides : roundOf (final fcwfa s) i ≢ 0
+  pub latest : (k : ℕ) → k < s .n → roundOf (final fcwfa s) k ≤ report fcwfa s .last
 
 -- Some process decides, so first and last are never empty.
 pub record Deciders (s : Schedule) : Type 0 where
@@ -97,13 +95,17 @@ pub record Deciders (s : Schedule) : Type 0 where
   pub last : ℕ
   pub last-is : LastIs s last
 
--- In a run no call of a member is refused, for any limit that lets n pass: no opening, no saying, and no row that a member hears. So the run is
--- the members' own answers.
-pub record NoneRefused (limit : ℕ) (s : Schedule) : Type 0 where
-  pub opens : (i : ℕ) → i < s .n → openQuestion limit (s .n) (s .t) (i + 1) (voteOf s i) ≡ 0
-  pub says : (r i : ℕ) → r ≤ s .t + 1 → i < s .n → sayQuestion limit (after fcwfa s r i) ≡ 0
-  pub hears : (r i : ℕ) → r ≤ s .t → Completes s (suc r) i → stopped (after fcwfa s r i) ≡ false
-      → hearQuestion limit (after fcwfa s r i) (rowOf fcwfa s (suc r) (statesAfter fcwfa s r) i) ≡ 0
+-- In a run no call of a member is refused, for any limit that lets n pass: no opening, no saying, and no row that a member hears.
+pub record NoneRefused (P : Protocol) (limit : ℕ) (s : Schedule) : Type 0 where
+  pub opens : (i : ℕ) → i < s .n → P .openQuestion limit (s .n) (s .t) (i + 1) (voteOf s i) ≡ 0
+  pub says : (r i : ℕ) → r ≤ s .t + 1 → i < s .n → P .sayQuestion limit (after P s r i) ≡ 0
+  pub hears : (r i : ℕ) → r ≤ s .t → Completes s (suc r) i → P .stopped (after P s r i) ≡ false
+      → P .hearQuestion limit (after P s r i) (rowOf P s (suc r) (statesAfter P s r) i) ≡ 0
+
+-- So the run is the members' own answers: the same states after each round, and the same messages in it.
+pub record OwnAnswers (P : Protocol) (limit : ℕ) (s : Schedule) : Type 0 where
+  pub states : (r : ℕ) → r ≤ s .t + 1 → statesAfter (byCalls limit P) s r ≡ statesAfter P s r
+  pub sends : (r : ℕ) → r ≤ s .t → sentAfter (byCalls limit P) s r ≡ sentAfter P s r
 
 -- All that is promised of the run of an accepted schedule. Proved in proofs/Theorem.antt:
 -- `accepted-run : (s : Schedule) (limit : ℕ) (answers : Bool) → question s limit answers ≡ 0 → RunPromises limit s`
@@ -113,7 +115,8 @@ pub record RunPromises (limit : ℕ) (s : Schedule) : Type 0 where
   pub crashes-so-far : CrashesSoFar s
   pub reported : Reported s
   pub deciders : Deciders s
-  pub none-refused : NoneRefused limit s
+  pub none-refused : NoneRefused fcwfa limit s
+  pub own-answers : OwnAnswers fcwfa limit s
   -- a round in which nothing is sent is followed by nothing else, so a run may end there
   pub silence : (r : ℕ) → sentAfter fcwfa s r ≡ 0 → SilentFrom fcwfa s r
   -- demand 3 of the report itself, on its counts and its tables

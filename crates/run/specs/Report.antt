@@ -4,11 +4,13 @@ use mathlib.Core.List.{List}
 use mathlib.Core.Bool.{Bool, cond, _&&_, _||_, not}
 use lib.Dec.{ltb, eqb}
 use lib.Count.{ones}
+use lib.ListN.{getD}
 use Rattle.laws.specs.Below.{sum, tabulate, fold}
+use Rattle.member.specs.declared.Member.{Member}
 use Rattle.member.specs.Saying.{nothing}
 use Rattle.schedule.specs.Schedule.{Schedule, crashOf, reachOf, crashCount}
 use Rattle.run.specs.Protocol.{Protocol}
-use Rattle.run.specs.Run.{completesRound, stateAt, statesAfter, final}
+use Rattle.run.specs.Run.{completesRound, stateAt, codeSaid, statesAfter, final}
 
 pub record Report : Type 0 where
   pub f : ℕ
@@ -45,23 +47,28 @@ module _ (round : ℕ → ℕ) where
   unfoldable pub lastOf : ℕ → ℕ
   lastOf n = fold n (λ i found. max found (round i)) 0
 
-module _ (P : Protocol) (states : List (P .State)) where
+-- Of n processes whose crash rounds and reaches stand in these tables, round r, in which the process at place j says `code j`: the messages of all
+-- senders.
+abbrev pub messagesOf : List ℕ → List ℕ → ℕ → (ℕ → ℕ) → ℕ → ℕ
+messagesOf crashes reaches r code n = sum n (λ j. sentBy n r (getD crashes j 0) (getD reaches j 0) (code j))
+
+module _ (states : List Member) where
   -- the decided round of process i in these states, 0 for none
   abbrev pub roundOf : ℕ → ℕ
-  roundOf i = P .decided (stateAt P states i)
+  roundOf i = stateAt states i .decided
 
   -- its decision: "0, 1 or 2 (none)"
   unfoldable pub decisionOf : ℕ → ℕ
-  decisionOf i = cond (eqb (roundOf i) 0) 2 (P .estimate (stateAt P states i))
+  decisionOf i = cond (eqb (roundOf i) 0) 2 (stateAt states i .estimate)
 
 module _ (P : Protocol) (s : Schedule) where
   -- what sender j adds in round r, from the states at its start
-  abbrev pub sent : ℕ → List (P .State) → ℕ → ℕ
-  sent r states j = sentBy (s .n) r (crashOf s j) (reachOf s j) (P .says (stateAt P states j))
+  abbrev pub sent : ℕ → List Member → ℕ → ℕ
+  sent r states j = sentBy (s .n) r (crashOf s j) (reachOf s j) (codeSaid P states j)
 
   -- the messages of all senders in the round that follows r rounds
   abbrev pub sentAfter : ℕ → ℕ
-  sentAfter r = sum (s .n) (sent (suc r) (statesAfter P s r))
+  sentAfter r = messagesOf (s .crashes) (s .reaches) (suc r) (codeSaid P (statesAfter P s r)) (s .n)
 
   -- "messages, the sum over all rounds and senders": of rounds 1 to t + 1
   unfoldable pub messages : ℕ
@@ -71,9 +78,9 @@ module _ (P : Protocol) (s : Schedule) where
   abbrev pub report : Report
   report = record {
     f = crashCount s;
-    first = firstOf (roundOf P (final P s)) (s .n);
-    last = lastOf (roundOf P (final P s)) (s .n);
+    first = firstOf (roundOf (final P s)) (s .n);
+    last = lastOf (roundOf (final P s)) (s .n);
     messages = messages;
-    decisions = tabulate (s .n) (decisionOf P (final P s));
-    rounds = tabulate (s .n) (roundOf P (final P s));
+    decisions = tabulate (s .n) (decisionOf (final P s));
+    rounds = tabulate (s .n) (roundOf (final P s));
   }

@@ -5,10 +5,11 @@ use mathlib.Core.Bool.{Bool, cond, _&&_, _||_, not}
 use lib.ListN.{getD}
 use lib.Dec.{ltb, eqb}
 use Rattle.laws.specs.Below.{tabulate}
+use Rattle.member.specs.declared.Member.{Member}
 use Rattle.member.specs.Saying.{nothing}
 use Rattle.sets.specs.Sets.{names}
 use Rattle.schedule.specs.Schedule.{Schedule, voteOf, crashOf, reachOf}
-use Rattle.run.specs.Protocol.{Protocol}
+use Rattle.run.specs.Protocol.{Protocol, nobody}
 
 -- "In round r a process with crash round c = 0 or c > r completes the round."
 unfoldable pub completesRound : ℕ → ℕ → Bool
@@ -27,45 +28,59 @@ delivered r i c reach code = cond (isHeard r i c reach) code nothing
 abbrev pub completes : Schedule → ℕ → ℕ → Bool
 completes s r i = completesRound r (crashOf s i)
 
+-- Of n processes whose crash rounds and reaches stand in these tables, round r, in which the process at place j says `code j`.
+module _ (crashes reaches : List ℕ) (r : ℕ) (code : ℕ → ℕ) where
+  -- what process i hears from j
+  abbrev pub heardFrom : ℕ → ℕ → ℕ
+  heardFrom i j = delivered r i (getD crashes j 0) (getD reaches j 0) (code j)
+
+  -- the row of codes that process i hears
+  abbrev pub rowHeard : ℕ → ℕ → List ℕ
+  rowHeard n i = tabulate n (heardFrom i)
+
 -- the state at place i of the states side by side; every place below n holds one
-abbrev pub stateAt : (P : Protocol) → List (P .State) → ℕ → P .State
-stateAt P states i = getD states i (P .nobody)
+abbrev pub stateAt : List Member → ℕ → Member
+stateAt states i = getD states i nobody
 
 -- The state after round r of a process with crash round c, from its state and its row: "A process that completes the round hears its row, unless it
 -- is stopped. Every other keeps its state"
-unfoldable pub stateAfter : (P : Protocol) → ℕ → ℕ → P .State → List ℕ → P .State
+unfoldable pub stateAfter : Protocol → ℕ → ℕ → Member → List ℕ → Member
 stateAfter P r c state row = cond (completesRound r c && not (P .stopped state)) (P .hears state row) state
+
+-- the code that the process at place j of these states says
+abbrev pub codeSaid : Protocol → List Member → ℕ → ℕ
+codeSaid P states j = P .says (stateAt states j)
 
 module _ (P : Protocol) (s : Schedule) where
   -- what process i hears from j in round r, of the states at its start
-  unfoldable pub codeHeard : ℕ → List (P .State) → ℕ → ℕ → ℕ
-  codeHeard r states i j = delivered r i (crashOf s j) (reachOf s j) (P .says (stateAt P states j))
+  unfoldable pub codeHeard : ℕ → List Member → ℕ → ℕ → ℕ
+  codeHeard r states = heardFrom (s .crashes) (s .reaches) r (codeSaid P states)
 
   -- the row of codes that process i hears in round r, of the states at its start
-  unfoldable pub rowOf : ℕ → List (P .State) → ℕ → List ℕ
+  unfoldable pub rowOf : ℕ → List Member → ℕ → List ℕ
   rowOf r states i = tabulate (s .n) (codeHeard r states i)
 
   -- the state of process i after round r, of the states at its start
-  unfoldable pub nextState : ℕ → List (P .State) → ℕ → P .State
-  nextState r states i = stateAfter P r (crashOf s i) (stateAt P states i) (rowOf r states i)
+  unfoldable pub nextState : ℕ → List Member → ℕ → Member
+  nextState r states i = stateAfter P r (crashOf s i) (stateAt states i) (rowOf r states i)
 
   -- round r of all processes: "All rows of a round come from the states at its start."
-  unfoldable pub played : ℕ → List (P .State) → List (P .State)
+  unfoldable pub played : ℕ → List Member → List Member
   played r states = tabulate (s .n) (nextState r states)
 
   -- "every member is opened with n, t, its own number and its vote"
-  unfoldable pub opened : List (P .State)
+  unfoldable pub opened : List Member
   opened = tabulate (s .n) (λ i. P .opening (s .n) (s .t) (i + 1) (voteOf s i))
 
   -- "Then rounds 1 to t + 1 are played in order, each from the states that the round before left": the states after r rounds
-  unfoldable pub statesAfter : ℕ → List (P .State)
+  unfoldable pub statesAfter : ℕ → List Member
   statesAfter zero = opened
   statesAfter (suc r) = played (suc r) (statesAfter r)
 
   -- process i after r rounds
-  unfoldable pub after : ℕ → ℕ → P .State
-  after r i = stateAt P (statesAfter r) i
+  unfoldable pub after : ℕ → ℕ → Member
+  after r i = stateAt (statesAfter r) i
 
   -- the states at the end of the run
-  unfoldable pub final : List (P .State)
+  unfoldable pub final : List Member
   final = statesAfter (s .t + 1)

@@ -65,45 +65,45 @@ module _ (s : Schedule) (decisions rounds : List ℕ) {ran : Ran} (left : ran �
     given-table given lent = sym (place-given _ given lent passed)
 
     -- the members are the states at the end of the run, and the messages those of the run
-    members-are : ran .members ≡ tabulate largest (stateAt fcwfa (final fcwfa s))
-    members-are = ap (λ (r : Ran). r .members) left ∙ place-given _ (tabulate largest (stateAt fcwfa (final fcwfa s))) _ passed
+    members-are : ran .members ≡ tabulate largest (stateAt (final fcwfa s))
+    members-are = ap (λ (r : Ran). r .members) left ∙ place-given _ (tabulate largest (stateAt (final fcwfa s))) _ passed
 
-    state-at : (i : ℕ) → i < s .n → stateAt fcwfa (ran .members) i ≡ stateAt fcwfa (final fcwfa s) i
+    state-at : (i : ℕ) → i < s .n → stateAt (ran .members) i ≡ stateAt (final fcwfa s) i
     state-at i l =
         let n-high = small in
-        ap (λ (states : List Member). stateAt fcwfa states i) members-are ∙ getD-tabulate largest (stateAt fcwfa (final fcwfa s)) i (fcwfa .nobody) (omega arith)
+        ap (λ (states : List Member). stateAt states i) members-are ∙ getD-tabulate largest (stateAt (final fcwfa s)) i (nobody) (omega arith)
 
     messages-are : ran .messages ≡ messages fcwfa s
     messages-are = ap (λ (r : Ran). r .messages) left ∙ place-given _ (messages fcwfa s) 0 passed
 
-    decisions-are : {given : List ℕ} → given ≡ tabulate (length decisions) (decisionOf fcwfa (ran .members)) → given ≡ report fcwfa s .decisions
+    decisions-are : {given : List ℕ} → given ≡ tabulate (length decisions) (decisionOf (ran .members)) → given ≡ report fcwfa s .decisions
     unfolding decisionOf
     decisions-are e =
         e
-        ∙ ap (λ (k : ℕ). tabulate k (decisionOf fcwfa (ran .members))) (tables-long .0)
+        ∙ ap (λ (k : ℕ). tabulate k (decisionOf (ran .members))) (tables-long .0)
         ∙ tabulate-same (s .n) _ _ (λ i l. ap (λ (m : Member). cond (eqb (m .decided) 0) 2 (m .estimate)) (state-at i l))
 
-    rounds-are : {given : List ℕ} → given ≡ tabulate (length rounds) (roundOf fcwfa (ran .members)) → given ≡ report fcwfa s .rounds
+    rounds-are : {given : List ℕ} → given ≡ tabulate (length rounds) (roundOf (ran .members)) → given ≡ report fcwfa s .rounds
     rounds-are e =
         e
-        ∙ ap (λ (k : ℕ). tabulate k (roundOf fcwfa (ran .members))) (tables-long .1)
-        ∙ tabulate-same (s .n) _ _ (λ i l. ap (fcwfa .decided) (state-at i l))
+        ∙ ap (λ (k : ℕ). tabulate k (roundOf (ran .members))) (tables-long .1)
+        ∙ tabulate-same (s .n) _ _ (λ i l. ap (λ (m : Member). m .decided) (state-at i l))
 
     -- what the code found: the counts c, and the two tables after the call
     module _ {c : Counts} {decisions-now rounds-now : List ℕ}
-        (d : decisions-now ≡ tabulate (length decisions) (decisionOf fcwfa (ran .members)))
-        (r : rounds-now ≡ tabulate (length rounds) (roundOf fcwfa (ran .members)))
+        (d : decisions-now ≡ tabulate (length decisions) (decisionOf (ran .members)))
+        (r : rounds-now ≡ tabulate (length rounds) (roundOf (ran .members)))
         (found : c ≡ record {
           f = crashesIn (length (s .crashes)) (s .crashes);
           first = firstOf (λ i. getD rounds-now i 0) (length rounds-now);
           last = lastOf (λ i. getD rounds-now i 0) (length rounds-now);
           messages = ran .messages;
         }) where
-      rounds-at : (λ (i : ℕ). getD rounds-now i 0) ≡ roundOf fcwfa (final fcwfa s)
+      rounds-at : (λ (i : ℕ). getD rounds-now i 0) ≡ roundOf (final fcwfa s)
       rounds-at k i = (ap (λ (l : List ℕ). getD l i 0) (rounds-are r) ∙ rounds-read s i) k
 
       rounds-long : length rounds-now ≡ s .n
-      rounds-long = ap length (rounds-are r) ∙ length-tabulate (s .n) (roundOf fcwfa (final fcwfa s))
+      rounds-long = ap length (rounds-are r) ∙ length-tabulate (s .n) (roundOf (final fcwfa s))
 
       counts-are : c ≡ countsOf (report fcwfa s)
       counts-are =

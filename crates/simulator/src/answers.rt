@@ -23,8 +23,8 @@ fn decision(m: Member) -> u8
 // Fills the two tables from the states at the end of the run.
 pub fn fill(members: [Member; WIDTH], decisions: &mut [u8], rounds: &mut [u8])
     requires size { ⌜ (length (now decisions) ≤ largest) × (length (now rounds) ≡ length (now decisions)) ⌝ }
-    ensures decided { λ _. ⌜ now (decisions .exit) ≡ tabulate (length (now (decisions .entry))) (decisionOf fcwfa members) ⌝ }
-    ensures timed { λ _. ⌜ now (rounds .exit) ≡ tabulate (length (now (rounds .entry))) (roundOf fcwfa members) ⌝ }
+    ensures decided { λ _. ⌜ now (decisions .exit) ≡ tabulate (length (now (decisions .entry))) (decisionOf members) ⌝ }
+    ensures timed { λ _. ⌜ now (rounds .exit) ≡ tabulate (length (now (rounds .entry))) (roundOf members) ⌝ }
 {
     let mut i: usize = 0;
     while i < decisions.len() {

@@ -12,7 +12,7 @@ use Rattle.rounds.proofs.play.codes_said.Statement.{statement}
 use Rattle.rounds.proofs.play.codes_said.Tie as tie
 
 abbrev Inv-loop : tie.InvT-loop
-Inv-loop n members codes₀ i₀ codes i = (i ≤ n) × Filled 0 largest i codes (λ k. says (stateAt fcwfa members k))
+Inv-loop n members codes₀ i₀ codes i = (i ≤ n) × Filled 0 largest i codes (λ k. says (stateAt members k))
 
 abbrev μ-loop : tie.MeasureT-loop
 μ-loop n members codes₀ i₀ codes i = n - i

@@ -17,7 +17,7 @@ use Rattle.rounds.proofs.play.hear_rows.Tie as tie
 abbrev Inv-loop : tie.InvT-loop
 Inv-loop n round grid crashes members codes next₀ i₀ next i =
     (i ≤ n)
-    × Filled nobody largest i next (λ k. stateAfter fcwfa round (getD crashes k 0) (stateAt fcwfa members k) (take n (getD grid k [])))
+    × Filled nobody largest i next (λ k. stateAfter fcwfa round (getD crashes k 0) (stateAt members k) (take n (getD grid k [])))
     × BlankFrom nobody n next
 
 abbrev μ-loop : tie.MeasureT-loop

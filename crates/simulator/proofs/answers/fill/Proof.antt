@@ -14,8 +14,8 @@ use Rattle.simulator.proofs.answers.fill.Tie as tie
 abbrev Inv-loop : tie.InvT-loop
 Inv-loop decisions₀ rounds₀ members i₀ decisions rounds i =
     (i ≤ length decisions₀)
-    × Filled 0 (length decisions₀) i decisions (decisionOf fcwfa members)
-    × Filled 0 (length decisions₀) i rounds (roundOf fcwfa members)
+    × Filled 0 (length decisions₀) i decisions (decisionOf members)
+    × Filled 0 (length decisions₀) i rounds (roundOf members)
 
 abbrev μ-loop : tie.MeasureT-loop
 μ-loop decisions₀ rounds₀ members i₀ decisions rounds i = length decisions₀ - i
