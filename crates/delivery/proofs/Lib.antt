@@ -1,3 +1,2 @@
-pub mod Senders
-pub mod Heard
 pub mod Sent
+pub mod Heard

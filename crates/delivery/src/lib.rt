@@ -1,41 +1,30 @@
-// Who hears whom in a round, and what a sender adds to its messages (document 01, "Who hears whom"):
-// each function answers what the definitions give, for any arguments. A run asks `heard_code` of every
-// two processes in every round, so it is the test of one bit.
+// Who hears whom in a round, and what is sent in it (document 01, "Who hears whom"), from the codes that the
+// processes say: nothing here knows a protocol.
+//
+// `completes` and `sent_by` are about one process; `messages_sent` counts the messages of a round, and
+// `fill_rows` forms its rows. Each takes anything and answers what the definitions of the crate `run` give;
+// none has a `requires`. A cluster of more processes than a set has bits for is cut there (`fitting`), and
+// a table reads as 0 past its end.
+mod rows;
+
+pub use rows::fill_rows;
 ghost use mathlib.Core.Path.{_≡_};
-ghost use Rattle.sets.specs.Largest.{largest};
+ghost use Prim.Native.Nat.{_*_, _≤_};
+ghost use lib.ListN.{getD};
+ghost use Rattle.sets.specs.Largest.{largest, fitting as Largest·fitting};
 ghost use Rattle.run.specs.Run.{completesRound};
-ghost use Rattle.run.specs.Report.{sentBy};
-ghost use Rattle.delivery.specs.Receivers.{receiversOf, heardOf};
-use sets::EVERYONE;
+ghost use Rattle.run.specs.Report.{sentBy, messagesOf};
 use sets::Set;
-use sets::is_named;
+use sets::WIDTH;
+use sets::byte_at;
+use sets::fitting;
+use sets::set_at;
 
 // Whether a process with this crash round completes the round.
 pub fn completes(round: u8, crash: u8) -> bool
     ensures tested { λ r. ⌜ r ≡ completesRound round crash ⌝ }
 {
     crash == 0 || round < crash
-}
-
-// The receivers of what a process with this crash round and this reach says in the round, as a set: bit
-// i stands for the process at place i.
-pub fn receivers(round: u8, crash: u8, reach: Set) -> Set
-    ensures set { λ r. ⌜ r ≡ receiversOf largest round crash reach ⌝ }
-{
-    if completes(round, crash) {
-        return EVERYONE;
-    }
-    if crash != round {
-        return 0;
-    }
-    reach
-}
-
-// What the process at place `hearer` hears of a code that is sent to this set of receivers.
-pub fn heard_code(hearer: usize, code: u8, to: Set) -> u8
-    ensures heard { λ r. ⌜ r ≡ heardOf hearer code to ⌝ }
-{
-    if is_named(to, hearer) { code } else { 0 }
 }
 
 // What a sender adds to the messages of the round: n if it completes the round, its own copy included,
@@ -54,4 +43,25 @@ pub fn sent_by(n: usize, round: u8, code: u8, crash: u8, reach: Set) -> usize
         return ones;
     }
     0
+}
+
+// The messages of the round, of the codes that are said in it.
+pub fn messages_sent(
+    n: usize,
+    round: u8,
+    codes: [u8; WIDTH],
+    crashes: &[u8],
+    reaches: &[Set],
+) -> usize
+    ensures counted { λ r. ⌜ r ≡ messagesOf (now (crashes .entry)) (now (reaches .entry)) round (λ j. getD codes j 0) (Largest·fitting n) ⌝ }
+    ensures few { λ r. ⌜ r ≤ largest * largest ⌝ }
+{
+    let size = fitting(n);
+    let mut messages: usize = 0;
+    let mut j: usize = 0;
+    while j < size {
+        messages += sent_by(size, round, codes[j], byte_at(crashes, j), set_at(reaches, j));
+        j += 1;
+    }
+    messages
 }

@@ -6,3 +6,4 @@ pub mod Lists
 pub mod Folds
 pub mod Answer
 pub mod Filled
+pub mod Overwritten

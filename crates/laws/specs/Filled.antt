@@ -1,8 +1,9 @@
 -- Arrays of which the first entries are known, and those after them.
 use Prim.Native.Nat.{ℕ, _≤_, _<_}
 use mathlib.Core.Path.{_≡_}
-use mathlib.Core.List.{List}
-use lib.ListN.{length, getD}
+use mathlib.Core.List.{List, _++_}
+use lib.ListN.{length, getD, drop}
+use Rattle.laws.specs.Below.{tabulate}
 
 -- the list has so many entries, and R holds of each of the first n; d stands for what is past a list's end
 pub record Each {A : Type 0} (d : A) (size n : ℕ) (xs : List A) (R : ℕ → A → Type 0) : Type 0 where
@@ -16,3 +17,7 @@ Filled {A} d size n xs f = Each d size n xs (λ (k : ℕ) (x : A). x ≡ f k)
 -- from place n on there is nothing but d
 pub record BlankFrom {A : Type 0} (d : A) (n : ℕ) (xs : List A) : Type 0 where
   pub blank : (k : ℕ) → n ≤ k → getD xs k d ≡ d
+
+-- a list has become another one: f 0, f 1, .., f (n - 1) are its first n entries now, and the others are as they were
+pub record Overwritten {A : Type 0} (n : ℕ) (f : ℕ → A) (before after : List A) : Type 0 where
+  pub is : after ≡ tabulate n f ++ drop n before

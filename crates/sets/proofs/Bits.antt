@@ -16,7 +16,7 @@ use borrow.Author.Tests.{eqb-true, eqb-false, eq-eqb, lt-ltb, le-ltb}
 use Rattle.laws.specs.Below.{bit, count, sum}
 use Rattle.laws.proofs.Test.{true-or-false}
 use Rattle.laws.proofs.Counting.{below-or-top, count-first, count-same}
-use Rattle.sets.specs.Sets.{names, upTo, everyone, setOf}
+use Rattle.sets.specs.Sets.{names, upTo, setOf}
 
 -- Below 2 ^ n, and past it.
 
@@ -71,18 +71,6 @@ ones-named (suc n) set h =
     let first = count-first n (names set) in
     let digit = ones-step set in
     omega arith
-
--- the set of all has the bit of each process
-pub all-named : (n i : ℕ) → i < n → names (everyone n) i ≡ true
-unfolding names
-all-named n i l =
-    let j = n - i - 1 in
-    let e : n ≡ suc j + i = omega arith in
-    let rest : (2 ^ n - 1) / 2 ^ i ≡ 2 ^ suc j - 1 =
-    ap (λ (w : ℕ). (2 ^ w - 1) / 2 ^ i) e ∙ ap (λ (x : ℕ). x / 2 ^ i) (Pow.ones-split (suc j) i) ∙ Pow.high (2 ^ suc j - 1) i (Pow.ones-lt i) in
-    let f : suc j ≡ j + 1 = omega arith in
-    let odd : (2 ^ suc j - 1) % 2 ≡ 1 = ap (λ (w : ℕ). (2 ^ w - 1) % 2) f ∙ ap (λ (x : ℕ). x % 2) (Pow.ones-split j 1) ∙ Pow.low (2 ^ j - 1) 1 (Pow.ones-lt 1) in
-    eq-eqb _ _ (ap (λ (x : ℕ). x % 2) rest ∙ odd)
 
 -- A set and the row of its bits.
 

@@ -1,3 +1,4 @@
 pub mod Largest
 pub mod Sets
+pub mod Tables
 pub mod Facts

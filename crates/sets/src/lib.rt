@@ -6,8 +6,8 @@
 // `requires`.
 ghost use mathlib.Core.Path.{_≡_};
 ghost use lib.Count.{ones as Count·ones};
-ghost use lib.ListN.{length, replicate};
-ghost use Rattle.sets.specs.Largest.{largest};
+ghost use lib.ListN.{length, getD, replicate};
+ghost use Rattle.sets.specs.Largest.{largest, fitting as Largest·fitting};
 ghost use Rattle.sets.specs.Sets.{names, upTo};
 
 // The largest n that is accepted: the bits of a set, and the entries of a table.
@@ -16,8 +16,26 @@ pub const WIDTH: usize = 32;
 // A set of processes.
 pub type Set = u32;
 
-// The set of all processes that a set has bits for.
-pub const EVERYONE: Set = 4294967295;
+// How many of n processes a set has bits for, and a table entries.
+pub fn fitting(n: usize) -> usize
+    ensures fit { λ r. ⌜ r ≡ Largest·fitting n ⌝ }
+{
+    if n <= WIDTH { n } else { WIDTH }
+}
+
+// The entry at place i of a table of bytes, 0 past its end.
+pub fn byte_at(table: &[u8], i: usize) -> u8
+    ensures entry { λ r. ⌜ r ≡ getD (now (table .entry)) i 0 ⌝ }
+{
+    if i < table.len() { table[i] } else { 0 }
+}
+
+// The entry at place i of a table of sets, the empty set past its end.
+pub fn set_at(table: &[Set], i: usize) -> Set
+    ensures entry { λ r. ⌜ r ≡ getD (now (table .entry)) i 0 ⌝ }
+{
+    if i < table.len() { table[i] } else { 0 }
+}
 
 // Whether the set names the process at place i. Nobody past its bits is named.
 pub fn is_named(set: Set, i: usize) -> bool

@@ -1,0 +1,91 @@
+-- `enter_crashing` meets its contract: a sender that crashes in another round, or never, changes nothing, and else each turn changes one row. Assumes
+-- nothing.
+use Prim.Native.Nat.{ℕ, _-_, _≤_}
+use mathlib.Core.Bool.{Bool, cond}
+use mathlib.Core.List.{List, []}
+use mathlib.Core.Logic.{_⊎_, ⊎-elim}
+use mathlib.Core.Path.{refl, _∙_, ap, ap₂}
+use native.Mathlib.Omega.{arith}
+use borrow.Author.Needs.{needs}
+use lib.ListN.{getD, set}
+use Rattle.laws.specs.Filled.{Overwritten}
+use Rattle.laws.proofs.Overwritten.{over-start, over-more, over-past, over-long, over-all}
+use Rattle.sets.specs.Sets.{names}
+use Rattle.member.specs.Saying.{nothing}
+use Rattle.delivery.proofs.rows.enter_crashing.Statement.{statement}
+use Rattle.delivery.proofs.rows.enter_crashing.Tie as tie
+
+abbrev Inv-loop : tie.InvT-loop
+Inv-loop n round j code crash reach grid₀ i₀ grid i = (i ≤ n) × Overwritten i (λ (k : ℕ). set (getD grid₀ k []) j (cond (names reach k) code nothing)) grid₀ grid
+
+abbrev μ-loop : tie.MeasureT-loop
+μ-loop n round j code crash reach grid₀ i₀ grid i = n - i
+
+returns : tie.Need-returns Inv-loop μ-loop
+returns c = record { crashing = λ some same. absurd (some (c .if1 .taken)); other = λ _. refl }
+
+returns-2 : tie.Need-returns-2 Inv-loop μ-loop
+returns-2 c = record { crashing = λ some same. absurd (c .if2 .taken same); other = λ _. refl }
+
+loop-holds : tie.Need-loop-holds Inv-loop μ-loop
+loop-holds c = (omega arith, over-start refl)
+
+is-named-requires : tie.Need-is-named-requires Inv-loop μ-loop
+is-named-requires c κs = search needs
+
+heard-or-nothing-requires : tie.Need-heard-or-nothing-requires Inv-loop μ-loop
+heard-or-nothing-requires c κs = search needs
+
+mul-grid : tie.Need-mul-grid Inv-loop μ-loop
+mul-grid c = omega arith
+
+index-1-grid : tie.Need-index-1-grid Inv-loop μ-loop
+index-1-grid c = let long = over-long (c .before .before .before .loop .inv .1) (omega arith) in omega arith
+
+index-2-grid : tie.Need-index-2-grid Inv-loop μ-loop
+index-2-grid c = omega arith
+
+add-i : tie.Need-add-i Inv-loop μ-loop
+add-i c = omega arith
+
+loop-less : tie.Need-loop-less Inv-loop μ-loop
+loop-less c = omega arith
+
+loop-again : tie.Need-loop-again Inv-loop μ-loop
+loop-again c = 
+    let a = c .before .before .before .before .before .before .args in
+    let at = c .before .before .before .loop in (
+      omega arith,
+      over-more (omega arith) (at .inv .1)
+      (ap₂ (λ (row : List ℕ) (x : ℕ). set row (a .j) x) (over-past (at .inv .1) (at .i) [] (omega arith))
+      (c .heard-or-nothing .ensures ∙ ap (λ (b : Bool). cond b (a .code) nothing) (c .before .is-named .ensures))),
+    )
+
+same-length : tie.Need-same-length Inv-loop μ-loop
+same-length c = over-long (c .before .loop .inv .1) (omega arith)
+
+returns-3 : tie.Need-returns-3 Inv-loop μ-loop
+returns-3 c = record {
+      crashing = λ some same. over-all (c .before .loop .inv .1) (omega arith);
+      other = λ e. absurd (⊎-elim (c .before .before .before .if1 .left) (λ past. past (c .before .before .if2 .left)) e);
+    }
+
+pub enter-crashing-spec : {M : Type 1} → statement M
+enter-crashing-spec =
+    tie.close
+    (tie.spec
+    Inv-loop
+    μ-loop
+    returns
+    returns-2
+    loop-holds
+    is-named-requires
+    heard-or-nothing-requires
+    mul-grid
+    index-1-grid
+    index-2-grid
+    add-i
+    loop-less
+    loop-again
+    same-length
+    returns-3)
