@@ -1,0 +1,3 @@
+pub mod Calls
+pub mod Rounds
+pub mod Ran

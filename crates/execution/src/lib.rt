@@ -1,0 +1,73 @@
+// The run of a schedule by its members' own calls (document 01, "Who hears whom").
+//
+// The members stand side by side in an array. `open_all` opens them, `codes_said` is what they say, and
+// `play_round` is one round of all of them; `hear_codes` is its second half, for a caller that has the codes
+// already. `play_rounds` asks questions 1 to 7 and plays rounds from the opening on. Each takes anything,
+// and none has a `requires`. That no call of a member is refused in the run of an accepted schedule is proved.
+mod calls;
+mod play;
+mod round;
+
+pub use round::codes_said;
+pub use round::hear_codes;
+pub use round::open_all;
+pub use round::play_round;
+ghost use mathlib.Core.Path.{_≡_};
+ghost use Prim.Native.Nat.{_+_, min};
+ghost use Rattle.sets.specs.Largest.{largest};
+ghost use Rattle.schedule.specs.Schedule.{scheduleOf};
+ghost use Rattle.schedule.specs.Questions.{answersOf};
+ghost use Rattle.run.specs.Protocol.{fcwfa};
+ghost use Rattle.execution.specs.Ran.{ranOf};
+use crate::play::play;
+use crate::round::no_members;
+use member::Member;
+use sets::Set;
+use sets::WIDTH;
+
+// What the rounds of a schedule leave: the number of the first question whose answer is no, or 0; the
+// members after these rounds, with nobody at the places that hold no member; and the messages sent in them.
+pub struct Ran {
+    pub question: u8,
+    pub members: [Member; WIDTH],
+    pub messages: usize,
+}
+
+// The last round that is played: `last`, or t + 1 where that is less.
+fn end_round(last: usize, t: usize) -> usize
+    ensures less { λ r. ⌜ r ≡ min last (t + 1) ⌝ }
+{
+    if last <= t { last } else { t + 1 }
+}
+
+// Rounds 1 to `last` of the schedule of these tables, t + 1 at most. `decisions` and `rounds` are the lengths
+// of the call's answer tables. A refused schedule leaves nobody and no message.
+pub fn play_rounds(
+    n: usize,
+    t: usize,
+    votes: &[u8],
+    crashes: &[u8],
+    reaches: &[Set],
+    decisions: usize,
+    rounds: usize,
+    last: usize,
+) -> Ran
+    ensures ran { λ r. ⌜ r ≡ ranOf fcwfa largest (scheduleOf n t (now (votes .entry)) (now (crashes .entry)) (now (reaches .entry))) (answersOf n decisions rounds) (min last (t + 1)) ⌝ }
+{
+    let question = acceptance::question(n, t, votes, crashes, reaches, decisions, rounds);
+    if question != 0 {
+        let none = no_members();
+        return Ran {
+            question: question,
+            members: none,
+            messages: 0,
+        };
+    }
+    let played = play(n, t, votes, crashes, reaches, end_round(last, t));
+    let members = played.members;
+    Ran {
+        question: question,
+        members: members,
+        messages: played.messages,
+    }
+}

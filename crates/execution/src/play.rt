@@ -1,0 +1,73 @@
+// The rounds of an accepted schedule, each from the states that the round before left.
+ghost use mathlib.Core.Bool.{true};
+ghost use mathlib.Core.Path.{_≡_};
+ghost use Prim.Native.Nat.{_+_, _≤_};
+ghost use Rattle.sets.specs.Largest.{largest};
+ghost use Rattle.schedule.specs.Schedule.{scheduleOf};
+ghost use Rattle.schedule.specs.Questions.{question};
+ghost use Rattle.run.specs.Protocol.{fcwfa};
+ghost use Rattle.execution.specs.Ran.{Plays};
+use crate::round::codes_said;
+use crate::round::hear_codes;
+use crate::round::open_all;
+use member::Member;
+use sets::Set;
+use sets::WIDTH;
+use sets::zero_bytes;
+
+// The grid of a run's rounds before its first.
+fn empty_grid() -> [[u8; WIDTH]; WIDTH] {
+    let row = zero_bytes();
+    [row; WIDTH]
+}
+
+// The states after some rounds, and the messages sent in them.
+pub struct Played {
+    pub members: [Member; WIDTH],
+    pub messages: usize,
+}
+
+// Rounds 1 to `last`, up to the first in which nothing is sent: after it nothing happens any more.
+pub fn play(
+    n: usize,
+    t: usize,
+    votes: &[u8],
+    crashes: &[u8],
+    reaches: &[Set],
+    last: usize,
+) -> Played
+    requires accepted { ⌜ question (scheduleOf n t (now votes) (now crashes) (now reaches)) largest true ≡ 0 ⌝ }
+    requires rounds { ⌜ last ≤ t + 1 ⌝ }
+    ensures played { λ r. ⌜ Plays fcwfa (scheduleOf n t (now (votes .entry)) (now (crashes .entry)) (now (reaches .entry))) last (r .members) (r .messages) ⌝ }
+{
+    let mut members = open_all(n, t, votes);
+    let mut grid = empty_grid();
+    let mut messages: usize = 0;
+    let mut round: u8 = 0;
+    while (round as usize) < last {
+        let codes = codes_said(n, members);
+        let sent = delivery::messages_sent(n, round + 1, codes, crashes, reaches);
+        if sent == 0 {
+            return Played {
+                members: members,
+                messages: messages,
+            };
+        }
+        let next = hear_codes(
+            n,
+            round + 1,
+            members,
+            codes,
+            crashes,
+            reaches,
+            &mut grid,
+        );
+        members = next;
+        messages += sent;
+        round += 1;
+    }
+    Played {
+        members: members,
+        messages: messages,
+    }
+}

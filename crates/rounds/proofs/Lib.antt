@@ -1,4 +1,0 @@
-pub mod Moves
-pub mod OneRound
-pub mod AllRounds
-pub mod Whole

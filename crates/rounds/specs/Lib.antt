@@ -1,2 +1,0 @@
-pub mod Rounds
-pub mod Ran
