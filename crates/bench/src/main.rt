@@ -1,17 +1,17 @@
 // The program `bench`: reads one schedule text from standard input and writes its report, or its
 // refusal, to standard output. All that is decided is decided in `output::printed`.
 //
-// The buffer has one byte more than a text may have, 2,049, so that a text that is too long is noticed:
+// The array has one byte more than a text may have, 2,049, so that a text that is too long is noticed:
 // as many bytes of it are refused as all of it is.
 use forms::LONGEST;
 use libc::STDIN_FILENO;
 use libc::STDOUT_FILENO;
 
 fn main() {
-    let mut buffer = [0u8; LONGEST + 1];
-    let count = io::read_full(STDIN_FILENO, &mut buffer);
-    let output = output::printed(&buffer[..count]);
-    let bytes = output.bytes;
-    let length = output.length;
+    let mut input = [0u8; LONGEST + 1];
+    let count = io::read_full(STDIN_FILENO, &mut input);
+    let answer = output::printed(&input[..count]);
+    let bytes = answer.bytes;
+    let length = answer.length;
     io::write_all(STDOUT_FILENO, &bytes[..length]);
 }

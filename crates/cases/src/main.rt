@@ -59,7 +59,7 @@ fn show_run(case: Case) {
     let crashes = case.crashes;
     let reaches = case.reaches;
     let mut decisions = [0u8; 4];
-    let mut rounds = [0u8; 4];
+    let mut decided = [0u8; 4];
     let answer = simulator::simulate(
         N,
         T,
@@ -67,34 +67,34 @@ fn show_run(case: Case) {
         &crashes,
         &reaches,
         &mut decisions,
-        &mut rounds,
+        &mut decided,
     );
-    show_answer(case, answer, decisions, rounds);
+    show_answer(case, answer, decisions, decided);
 }
 
 // The report, and whether the table has the same.
-fn show_answer(case: Case, answer: Simulated, decisions: [u8; 4], rounds: [u8; 4]) {
+fn show_answer(case: Case, answer: Simulated, decisions: [u8; 4], decided: [u8; 4]) {
     let Simulated::Completed(counts) = answer else {
         show_difference(false);
         return;
     };
-    show_report(counts, decisions, rounds);
-    show_difference(is_as_marked(case, counts, decisions, rounds));
+    show_report(counts, decisions, decided);
+    show_difference(is_as_marked(case, counts, decisions, decided));
 }
 
 // The report, in the lines that `bench` writes. It has less than 256 bytes.
-fn show_report(counts: Counts, decisions: [u8; 4], rounds: [u8; 4]) {
+fn show_report(counts: Counts, decisions: [u8; 4], decided: [u8; 4]) {
     let mut bytes = [0u8; 256];
-    let length = report::put_report(&mut bytes, 0, T, counts, &decisions, &rounds);
-    print(&bytes[..length]);
+    let end = report::put_report(&mut bytes, 0, T, counts, &decisions, &decided);
+    print(&bytes[..end]);
 }
 
 // Whether these are the results that the table has for the case.
-fn is_as_marked(case: Case, counts: Counts, decisions: [u8; 4], rounds: [u8; 4]) -> bool {
+fn is_as_marked(case: Case, counts: Counts, decisions: [u8; 4], decided: [u8; 4]) -> bool {
     let marked_decisions = case.decisions;
     let marked_rounds = case.rounds;
     check::same(&decisions, &marked_decisions)
-        & check::same(&rounds, &marked_rounds)
+        & check::same(&decided, &marked_rounds)
         & (counts.f == case.f as usize)
         & (counts.first == case.first as usize)
         & (counts.last == case.last as usize)
@@ -137,7 +137,7 @@ fn number_of(refusal: Refusal) -> u8 {
     let crashes = refusal.crashes;
     let reaches = refusal.reaches;
     let mut decisions = [0u8; 4];
-    let mut rounds = [0u8; 4];
+    let mut decided = [0u8; 4];
     let answer = simulator::simulate(
         refusal.n,
         refusal.t,
@@ -145,7 +145,7 @@ fn number_of(refusal: Refusal) -> u8 {
         &crashes,
         &reaches,
         &mut decisions,
-        &mut rounds,
+        &mut decided,
     );
     let Simulated::Refused(number) = answer else {
         return 0;

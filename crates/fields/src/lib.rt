@@ -36,12 +36,12 @@ pub enum Reach {
 }
 
 // Whether the text starts with these letters.
-pub fn starts_with(text: &[u8], letters: &[u8]) -> bool
-    ensures tested { λ r. ⌜ r ≡ startsWith (now (letters .entry)) (now (text .entry)) ⌝ }
+pub fn starts_with(text: &[u8], start: &[u8]) -> bool
+    ensures tested { λ r. ⌜ r ≡ startsWith (now (start .entry)) (now (text .entry)) ⌝ }
 {
     let mut i: usize = 0;
-    while i < letters.len() {
-        if !has_byte(text, i, letters[i]) {
+    while i < start.len() {
+        if !has_byte(text, i, start[i]) {
             return false;
         }
         i += 1;

@@ -7,8 +7,8 @@ use lib.Dec.{leb}
 use Rattle.laws.specs.Answer.{Answer, accepted, refused}
 use Rattle.fields.specs.Found.{Found, found, wrong}
 use Rattle.text.specs.Forms.{Sizes, Entry, entryAt}
-use Rattle.forms.specs.declared.Reading.{Reading}
-use Rattle.forms.specs.declared.Reading.the-variants.{Read, Refused}
+use Rattle.forms.specs.declared.Head.{Head}
+use Rattle.forms.specs.declared.Head.the-variants.{Passed, Refused}
 use Rattle.forms.specs.declared.HeadingLine.{HeadingLine}
 use Rattle.forms.specs.declared.HeadingLine.the-variants.{Heading, NoHeading}
 use Rattle.forms.specs.declared.SizesLine.{SizesLine}
@@ -17,9 +17,9 @@ use Rattle.forms.specs.declared.ProcessLine.{ProcessLine}
 use Rattle.forms.specs.declared.ProcessLine.the-variants.{Process, NoProcess}
 
 -- for each case of the answer's enum document 01's number and values: a refusal gives its number and the line's
-abbrev pub readingIs : Reading → Answer Sizes ℕ
-readingIs (Read n t) = accepted (record { n = n; t = t })
-readingIs (Refused number line) = refused number line
+abbrev pub headIs : Head → Answer Sizes ℕ
+headIs (Passed n t) = accepted (record { n = n; t = t })
+headIs (Refused number line) = refused number line
 
 -- the value that was found, without the text after it
 abbrev pub valueOf : {A : Type 0} → Found A → Option A

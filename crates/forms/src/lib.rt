@@ -9,7 +9,7 @@ ghost use Rattle.sets.specs.Largest.{largest};
 ghost use Rattle.fields.specs.Fields.{startsWith};
 ghost use Rattle.text.specs.Forms.{sizesAt};
 ghost use Rattle.text.specs.Reading.{longest, sizesIn, headQuestions};
-ghost use Rattle.forms.specs.Answers.{valueOf, readingIs, headingIs, sizesIs, processIs, entryUpTo};
+ghost use Rattle.forms.specs.Answers.{valueOf, headIs, headingIs, sizesIs, processIs, entryUpTo};
 use fields::Field;
 use fields::Reach;
 use fields::SPACE;
@@ -22,9 +22,10 @@ use sets::Set;
 // How many bytes a text may have.
 pub const LONGEST: usize = 2048;
 
-// The sizes n and t of the text, or the number of the first question whose answer is no and its line.
-pub enum Reading {
-    Read(usize, usize),
+// The sizes n and t of a head whose questions are all answered by yes, or the number of the first question
+// whose answer is no and its line.
+pub enum Head {
+    Passed(usize, usize),
     Refused(u8, usize),
 }
 
@@ -71,27 +72,27 @@ fn read_sizes(text: &[u8]) -> SizesLine
 }
 
 // The question of the text's length, and those of lines 1 to 3.
-pub fn read_head(text: &[u8]) -> Reading
-    ensures asked { λ r. ⌜ readingIs r ≡ andNext (headQuestions (now (text .entry)) largest longest) (accepted (sizesIn (now (text .entry)))) ⌝ }
+pub fn read_head(text: &[u8]) -> Head
+    ensures asked { λ r. ⌜ headIs r ≡ andNext (headQuestions (now (text .entry)) largest longest) (accepted (sizesIn (now (text .entry)))) ⌝ }
 {
     if LONGEST < text.len() {
-        return Reading::Refused(8, 0);
+        return Head::Refused(8, 0);
     }
     let HeadingLine::Heading = read_heading(text, b"n t\n") else {
-        return Reading::Refused(9, 1);
+        return Head::Refused(9, 1);
     };
     let SizesLine::Sized(n, t) = read_sizes(from(text, line_start(text, 1))) else {
-        return Reading::Refused(9, 2);
+        return Head::Refused(9, 2);
     };
     let number = member::size_question(n, t);
     if number != 0 {
-        return Reading::Refused(number, 2);
+        return Head::Refused(number, 2);
     }
     let third = from(text, line_start(text, 2));
     let HeadingLine::Heading = read_heading(third, b"id vote crash reach\n") else {
-        return Reading::Refused(9, 3);
+        return Head::Refused(9, 3);
     };
-    Reading::Read(n, t)
+    Head::Passed(n, t)
 }
 
 // The line of the process at place i, at the start of what is handed over: its own number i + 1, vote,

@@ -2,7 +2,7 @@
 //
 // `hear` gives the state after the row. It takes anything and answers what the definitions of the crate
 // `member` give, refusals too; it has no `requires`.
-mod row;
+mod codes;
 mod rules;
 
 ghost use mathlib.Core.Path.{_≡_};
@@ -29,8 +29,8 @@ pub fn hear(m: Member, row: &[u8]) -> Heard
         return Heard::Refused(13, m);
     }
     let place = (m.id - 1) as usize;
-    let counts = row::tally(row);
-    let question = row::row_question(m.round, says, row[place], counts);
+    let counts = codes::tally(row);
+    let question = codes::row_question(m.round, says, row[place], counts);
     if question != 0 {
         return Heard::Refused(question, m);
     }

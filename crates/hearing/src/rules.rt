@@ -5,7 +5,7 @@ ghost use Prim.Native.Nat.{_+_, _≤_, _<_};
 ghost use Rattle.sets.specs.Largest.{largest};
 ghost use Rattle.member.specs.State.{inRange};
 ghost use Rattle.member.specs.Hearing.{estimates, zerosOnly, quiet, enough, ruleMet, moved as Hearing·moved, firstEstimate, lowered, toldValue, byRule, becomes};
-use crate::row::is_told;
+use crate::codes::is_told;
 use member::Member;
 use member::Rule;
 use member::Tally;

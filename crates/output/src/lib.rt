@@ -12,7 +12,7 @@ ghost use Rattle.text.specs.Reading.{longest};
 ghost use Rattle.text.specs.Output.{outputOf};
 ghost use Rattle.output.specs.Answers.{outputIs, OutputKeepsDemand3};
 use forms::LONGEST;
-use forms::Reading;
+use reader::Reading;
 use sets::zero_bytes;
 use sets::zero_sets;
 

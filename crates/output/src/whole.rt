@@ -36,24 +36,24 @@ fn completed(
     crashes: &[u8],
     reaches: &[Set],
     decisions: &mut [u8],
-    rounds: &mut [u8],
+    decided: &mut [u8],
 ) -> Output
-    requires accepted { ⌜ question (scheduleOf n t (now votes) (now crashes) (now reaches)) largest (answersOf n (length (now decisions)) (length (now rounds))) ≡ 0 ⌝ }
+    requires accepted { ⌜ question (scheduleOf n t (now votes) (now crashes) (now reaches)) largest (answersOf n (length (now decisions)) (length (now decided))) ≡ 0 ⌝ }
     ensures output { λ r. ⌜ r ≡ outputIs (reportText n t (report fcwfa (scheduleOf n t (now (votes .entry)) (now (crashes .entry)) (now (reaches .entry))))) ⌝ }
     ensures fits { λ r. ⌜ r .length ≤ outputSize ⌝ }
 {
     let mut bytes = blank_output();
-    let run = simulator::simulate(n, t, votes, crashes, reaches, decisions, rounds);
-    let Simulated::Completed(counts) = run else {
+    let answer = simulator::simulate(n, t, votes, crashes, reaches, decisions, decided);
+    let Simulated::Completed(counts) = answer else {
         return Output {
             bytes: bytes,
             length: 0,
         };
     };
-    let length = put_report(&mut bytes, 0, t, counts, &decisions[..], &rounds[..]);
+    let end = put_report(&mut bytes, 0, t, counts, &decisions[..], &decided[..]);
     Output {
         bytes: bytes,
-        length: length,
+        length: end,
     }
 }
 
@@ -71,7 +71,7 @@ pub fn of_tables(
     ensures fits { λ r. ⌜ r .length ≤ outputSize ⌝ }
 {
     let mut decisions = zero_bytes();
-    let mut rounds = zero_bytes();
+    let mut decided = zero_bytes();
     completed(
         n,
         t,
@@ -79,7 +79,7 @@ pub fn of_tables(
         &crashes[..n],
         &reaches[..n],
         &mut decisions[..n],
-        &mut rounds[..n],
+        &mut decided[..n],
     )
 }
 
@@ -90,9 +90,9 @@ pub fn refused(text: &[u8], number: u8, k: usize) -> Output
     ensures fits { λ r. ⌜ r .length ≤ outputSize ⌝ }
 {
     let mut bytes = blank_output();
-    let length = put_refusal(&mut bytes, 0, number, k, lines::line(text, k));
+    let end = put_refusal(&mut bytes, 0, number, k, lines::line(text, k));
     Output {
         bytes: bytes,
-        length: length,
+        length: end,
     }
 }

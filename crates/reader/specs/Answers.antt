@@ -8,8 +8,13 @@ use Rattle.sets.specs.Largest.{largest}
 use Rattle.schedule.specs.Questions.{tablesOf}
 use Rattle.text.specs.Forms.{Sizes}
 use Rattle.text.specs.Reading.{longest, onLine, sizesIn, scheduleIn, textQuestions}
-use Rattle.forms.specs.declared.Reading.{Reading}
-use Rattle.forms.specs.Answers.{readingIs}
+use Rattle.reader.specs.declared.Reading.{Reading}
+use Rattle.reader.specs.declared.Reading.the-variants.{Read, Refused}
+
+-- for each case of the answer's enum document 01's number and values: a refusal gives its number and the line's
+abbrev pub readingIs : Reading → Answer Sizes ℕ
+readingIs (Read n t) = accepted (record { n = n; t = t })
+readingIs (Refused number line) = refused number line
 
 -- what is given if every question is answered by yes, or else what is kept
 abbrev pub givenOr : {A B : Type 0} → Answer (Unit {0}) B → A → A → A

@@ -8,11 +8,18 @@ mod rest;
 mod tables;
 
 ghost use Rattle.reader.specs.Answers.{Reads};
+use crate::rest::read_rest;
 use acceptance::are_of_size;
-use forms::Reading;
+use forms::Head;
 use forms::read_head;
 use sets::Set;
 use sets::WIDTH;
+
+// The sizes n and t of the text, or the number of the first question whose answer is no and its line.
+pub enum Reading {
+    Read(usize, usize),
+    Refused(u8, usize),
+}
 
 // Some questions were answered by yes, or the number of the first whose answer is no and its line.
 pub enum Asked {
@@ -26,13 +33,11 @@ pub fn read(text: &[u8], votes: &mut [u8], crashes: &mut [u8], reaches: &mut [Se
     if !are_of_size(WIDTH, votes.len(), crashes.len(), reaches.len()) {
         return Reading::Refused(3, 0);
     }
-    let head = read_head(text);
-    let Reading::Read(n, t) = head else {
-        return head;
-    };
-    let rest = rest::read_rest(text, n, t, votes, crashes, reaches);
-    if let Asked::Refused(number, line) = rest {
-        return Reading::Refused(number, line);
+    match read_head(text) {
+        Head::Refused(number, line) => Reading::Refused(number, line),
+        Head::Passed(n, t) => match read_rest(text, n, t, votes, crashes, reaches) {
+            Asked::Refused(number, line) => Reading::Refused(number, line),
+            Asked::Passed => Reading::Read(n, t),
+        },
     }
-    Reading::Read(n, t)
 }

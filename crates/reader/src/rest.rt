@@ -34,7 +34,7 @@ pub fn read_rest(
     let mut own_votes = zero_bytes();
     let mut own_crashes = zero_bytes();
     let mut own_reaches = zero_sets();
-    let lines = read_processes(
+    let processes = read_processes(
         text,
         n,
         t,
@@ -42,8 +42,8 @@ pub fn read_rest(
         &mut own_crashes,
         &mut own_reaches,
     );
-    let Asked::Passed = lines else {
-        return lines;
+    let Asked::Passed = processes else {
+        return processes;
     };
     let tail = read_tail(text, n, t, &own_crashes[..n]);
     let Asked::Passed = tail else {

@@ -35,41 +35,41 @@ fn decision_letter(decision: u8) -> u8
 }
 
 // Writes the line of the process at place i.
-fn put_decision(buffer: &mut [u8], at: usize, i: usize, decision: u8, round: u8) -> usize
+fn put_decision(bytes: &mut [u8], at: usize, i: usize, decision: u8, round: u8) -> usize
     requires small { ⌜ (i + 1 < 2 ^ 64) × (decision ≤ 2) ⌝ }
-    ensures written { λ r. ⌜ Writes (now (buffer .entry)) at (now (buffer .exit)) r (decisionLine i decision round) ⌝ }
+    ensures written { λ r. ⌜ Writes (now (bytes .entry)) at (now (bytes .exit)) r (decisionLine i decision round) ⌝ }
 {
-    let own = put_field(buffer, at, i + 1, SPACE);
-    let decided = put_byte(buffer, own, decision_letter(decision));
-    let space = put_byte(buffer, decided, SPACE);
-    put_field(buffer, space, round as usize, LF)
+    let own = put_field(bytes, at, i + 1, SPACE);
+    let decided = put_byte(bytes, own, decision_letter(decision));
+    let space = put_byte(bytes, decided, SPACE);
+    put_field(bytes, space, round as usize, LF)
 }
 
 // Writes the lines of the processes in order.
-fn put_decisions(buffer: &mut [u8], at: usize, decisions: &[u8], rounds: &[u8]) -> usize
-    requires size { ⌜ length (now rounds) ≡ length (now decisions) ⌝ }
+fn put_decisions(bytes: &mut [u8], at: usize, decisions: &[u8], decided: &[u8]) -> usize
+    requires size { ⌜ length (now decided) ≡ length (now decisions) ⌝ }
     requires values { ⌜ areDecisions (now decisions) ≡ true ⌝ }
-    ensures written { λ r. ⌜ Writes (now (buffer .entry)) at (now (buffer .exit)) r (decisionLines (length (now (decisions .entry))) (now (decisions .entry)) (now (rounds .entry))) ⌝ }
+    ensures written { λ r. ⌜ Writes (now (bytes .entry)) at (now (bytes .exit)) r (decisionLines (length (now (decisions .entry))) (now (decisions .entry)) (now (decided .entry))) ⌝ }
 {
     let mut next = at;
     let mut i: usize = 0;
     while i < decisions.len() {
-        next = put_decision(buffer, next, i, decisions[i], rounds[i]);
+        next = put_decision(bytes, next, i, decisions[i], decided[i]);
         i += 1;
     }
     next
 }
 
 // Writes the line of n, t and the counts.
-fn put_counts(buffer: &mut [u8], at: usize, n: usize, t: usize, counts: Counts) -> usize
-    ensures written { λ r. ⌜ ((decisions rounds : List ℕ) → Writes (now (buffer .entry)) at (now (buffer .exit)) r (countsLine n t (givenBy counts decisions rounds))) ⌝ }
+fn put_counts(bytes: &mut [u8], at: usize, n: usize, t: usize, counts: Counts) -> usize
+    ensures written { λ r. ⌜ ((decisions rounds : List ℕ) → Writes (now (bytes .entry)) at (now (bytes .exit)) r (countsLine n t (givenBy counts decisions rounds))) ⌝ }
 {
-    let after_n = put_field(buffer, at, n, SPACE);
-    let after_t = put_field(buffer, after_n, t, SPACE);
-    let after_f = put_field(buffer, after_t, counts.f, SPACE);
-    let after_first = put_field(buffer, after_f, counts.first, SPACE);
-    let after_last = put_field(buffer, after_first, counts.last, SPACE);
-    put_field(buffer, after_last, counts.messages, LF)
+    let after_n = put_field(bytes, at, n, SPACE);
+    let after_t = put_field(bytes, after_n, t, SPACE);
+    let after_f = put_field(bytes, after_t, counts.f, SPACE);
+    let after_first = put_field(bytes, after_f, counts.first, SPACE);
+    let after_last = put_field(bytes, after_first, counts.last, SPACE);
+    put_field(bytes, after_last, counts.messages, LF)
 }
 
 // Whether each of these is a decision: 0, 1 or 2 for none.
@@ -88,52 +88,53 @@ fn are_decisions(decisions: &[u8]) -> bool
 
 // Writes the lines of the report of these counts and tables.
 fn put_lines(
-    buffer: &mut [u8],
+    bytes: &mut [u8],
     at: usize,
     t: usize,
     counts: Counts,
     decisions: &[u8],
-    rounds: &[u8],
+    decided: &[u8],
 ) -> usize
-    requires size { ⌜ length (now rounds) ≡ length (now decisions) ⌝ }
+    requires size { ⌜ length (now decided) ≡ length (now decisions) ⌝ }
     requires values { ⌜ areDecisions (now decisions) ≡ true ⌝ }
-    ensures written { λ r. ⌜ Writes (now (buffer .entry)) at (now (buffer .exit)) r (reportText (length (now (decisions .entry))) t (givenBy counts (now (decisions .entry)) (now (rounds .entry)))) ⌝ }
+    ensures written { λ r. ⌜ Writes (now (bytes .entry)) at (now (bytes .exit)) r (reportText (length (now (decisions .entry))) t (givenBy counts (now (decisions .entry)) (now (decided .entry)))) ⌝ }
 {
-    let heading = put(buffer, at, b"n t f first last messages\n");
-    let values = put_counts(buffer, heading, decisions.len(), t, counts);
-    let names = put(buffer, values, b"id decision round\n");
-    put_decisions(buffer, names, decisions, rounds)
+    let heading = put(bytes, at, b"n t f first last messages\n");
+    let values = put_counts(bytes, heading, decisions.len(), t, counts);
+    let names = put(bytes, values, b"id decision round\n");
+    put_decisions(bytes, names, decisions, decided)
 }
 
-// Writes what the bench gives for a schedule of n processes that bears t crashes, from place `at` on.
-// Tables that no run gives, of two lengths or with what is no decision, are not written.
+// Writes what the bench gives for a schedule of n processes that bears t crashes, from place `at` on:
+// `decisions` holds the decision of each process, 2 for none, and `decided` its round, 0 for none. Tables
+// that no run gives, of two lengths or with what is no decision, are not written.
 pub fn put_report(
-    buffer: &mut [u8],
+    bytes: &mut [u8],
     at: usize,
     t: usize,
     counts: Counts,
     decisions: &[u8],
-    rounds: &[u8],
+    decided: &[u8],
 ) -> usize
-    ensures written { λ r. ⌜ Writes (now (buffer .entry)) at (now (buffer .exit)) r (shown t counts (now (decisions .entry)) (now (rounds .entry))) ⌝ }
+    ensures written { λ r. ⌜ Writes (now (bytes .entry)) at (now (bytes .exit)) r (shown t counts (now (decisions .entry)) (now (decided .entry))) ⌝ }
 {
-    if rounds.len() != decisions.len() {
+    if decided.len() != decisions.len() {
         return at;
     }
     if !are_decisions(decisions) {
         return at;
     }
-    put_lines(buffer, at, t, counts, decisions, rounds)
+    put_lines(bytes, at, t, counts, decisions, decided)
 }
 
 // Writes the three lines of a refusal from place `at` on: its heading, the number and the line's number,
 // and the line.
-pub fn put_refusal(buffer: &mut [u8], at: usize, number: u8, k: usize, line: &[u8]) -> usize
-    ensures written { λ r. ⌜ Writes (now (buffer .entry)) at (now (buffer .exit)) r (refusalText number k (now (line .entry))) ⌝ }
+pub fn put_refusal(bytes: &mut [u8], at: usize, number: u8, k: usize, line: &[u8]) -> usize
+    ensures written { λ r. ⌜ Writes (now (bytes .entry)) at (now (bytes .exit)) r (refusalText number k (now (line .entry))) ⌝ }
 {
-    let heading = put(buffer, at, b"refused line\n");
-    let refused = put_field(buffer, heading, number as usize, SPACE);
-    let numbered = put_field(buffer, refused, k, LF);
-    let shown = put(buffer, numbered, line);
-    put_byte(buffer, shown, LF)
+    let heading = put(bytes, at, b"refused line\n");
+    let refused = put_field(bytes, heading, number as usize, SPACE);
+    let numbered = put_field(bytes, refused, k, LF);
+    let after_line = put(bytes, numbered, line);
+    put_byte(bytes, after_line, LF)
 }

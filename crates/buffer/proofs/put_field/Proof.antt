@@ -1,14 +1,9 @@
 -- `put_field` meets its contract: the digits that `io::decimal` gives are written, and then the byte that ends them. Assumes nothing.
 use mathlib.Core.Path.{_∙_}
 use borrow.Author.Needs.{needs}
-use Rattle.io.proofs.decimal.Reads as decimal-reads
 use Rattle.fields.specs.Decimal.{decimal, field}
 use Rattle.buffer.proofs.Digits.{digits-decimal}
 use Rattle.buffer.proofs.Written.{writes-same, writes-more}
-use Rattle.buffer.proofs.put_field.Reads as reads
-use Rattle.buffer.proofs.put_field.Lts as lts
-use Rattle.buffer.proofs.put.Reads as put-reads
-use Rattle.buffer.proofs.put_byte.Reads as put-byte-reads
 use Rattle.buffer.proofs.put_field.Statement.{statement}
 use Rattle.buffer.proofs.put_field.Tie as tie
 

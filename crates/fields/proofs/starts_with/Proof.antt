@@ -12,10 +12,10 @@ use Rattle.fields.proofs.starts_with.Statement.{statement}
 use Rattle.fields.proofs.starts_with.Tie as tie
 
 abbrev Inv-loop : tie.InvT-loop
-Inv-loop text letters i₀ i = (i ≤ length letters) × (startsWith letters text ≡ startsWith (drop i letters) (drop i text))
+Inv-loop text start i₀ i = (i ≤ length start) × (startsWith start text ≡ startsWith (drop i start) (drop i text))
 
 abbrev μ-loop : tie.MeasureT-loop
-μ-loop text letters i₀ i = length letters - i
+μ-loop text start i₀ i = length start - i
 
 loop-holds : tie.Need-loop-holds Inv-loop μ-loop
 loop-holds c = (omega arith, refl)
@@ -30,8 +30,8 @@ returns : tie.Need-returns Inv-loop μ-loop
 returns c =
     let a = c .before .before .before .before .before .before .before .args in
     let l = c .before .before .before .before .loop in
-    let differs : hasByte (getD (a .letters .now) (l .i) 0) (a .text .now) (l .i) ≡ false = was-false (c .before .has-byte .ensures) (c .if1 .taken) in
-    sym (l .inv .1 ∙ starts-at (a .letters .now) (a .text .now) (l .i) (omega arith) ∙ and-no-left _ _ differs)
+    let differs : hasByte (getD (a .start .now) (l .i) 0) (a .text .now) (l .i) ≡ false = was-false (c .before .has-byte .ensures) (c .if1 .taken) in
+    sym (l .inv .1 ∙ starts-at (a .start .now) (a .text .now) (l .i) (omega arith) ∙ and-no-left _ _ differs)
 
 add-i : tie.Need-add-i Inv-loop μ-loop
 add-i c = omega arith
@@ -43,14 +43,14 @@ loop-again : tie.Need-loop-again Inv-loop μ-loop
 loop-again c =
     let a = c .before .before .before .before .before .before .before .args in
     let l = c .before .before .before .before .loop in
-    let same : hasByte (getD (a .letters .now) (l .i) 0) (a .text .now) (l .i) ≡ true = was-true (c .before .has-byte .ensures) (c .if1 .left) in
-    (omega arith, l .inv .1 ∙ starts-at (a .letters .now) (a .text .now) (l .i) (omega arith) ∙ sym (and-goes-on _ _ same))
+    let same : hasByte (getD (a .start .now) (l .i) 0) (a .text .now) (l .i) ≡ true = was-true (c .before .has-byte .ensures) (c .if1 .left) in
+    (omega arith, l .inv .1 ∙ starts-at (a .start .now) (a .text .now) (l .i) (omega arith) ∙ sym (and-goes-on _ _ same))
 
 returns-2 : tie.Need-returns-2 Inv-loop μ-loop
 returns-2 c =
     let a = c .before .before .before .before .args in
     let l = c .before .loop in
-    sym (l .inv .1 ∙ starts-past (a .letters .now) (a .text .now) (l .i) (omega arith))
+    sym (l .inv .1 ∙ starts-past (a .start .now) (a .text .now) (l .i) (omega arith))
 
 pub starts-with-spec : {M : Type 1} → statement M
 starts-with-spec =

@@ -4,16 +4,10 @@ use Prim.Native.Nat.{_+_}
 use native.Mathlib.Omega.{arith}
 use borrow.Author.Needs.{needs}
 use Rattle.lines.specs.Lines.{lf}
-use Rattle.lines.proofs.from.Reads as from-reads
 use Rattle.fields.specs.Found.{found}
 use Rattle.sets.specs.Largest.{largest}
 use Rattle.fields.specs.Fields.{space, numberField, digitField, reachUpTo, reachIs}
-use Rattle.fields.proofs.digit_field.Reads as digit-field-reads
-use Rattle.fields.proofs.number_field.Reads as number-field-reads
-use Rattle.fields.proofs.reach_field.Reads as reach-field-reads
 use Rattle.forms.proofs.LineForms.{field-found, field-wrong, reach-found, reach-wrong, no-id, other-id, no-vote, no-crash, no-reach, whole-entry}
-use Rattle.forms.proofs.read_process.Reads as reads
-use Rattle.forms.proofs.read_process.Lts as lts
 use Rattle.forms.proofs.read_process.Statement.{statement}
 use Rattle.forms.proofs.read_process.Tie as tie
 

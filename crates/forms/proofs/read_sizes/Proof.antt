@@ -1,13 +1,9 @@
 -- `read_sizes` meets its contract: each field that is found hands the text after it to the next. Assumes nothing.
 use mathlib.Core.Path.{_≡_, refl}
 use borrow.Author.Needs.{needs}
-use Rattle.lines.proofs.from.Reads as from-reads
 use Rattle.fields.specs.Found.{found}
 use Rattle.fields.specs.Fields.{space, numberField}
-use Rattle.fields.proofs.number_field.Reads as number-field-reads
 use Rattle.forms.proofs.LineForms.{field-found, field-wrong, no-n, no-t, both-sizes}
-use Rattle.forms.proofs.read_sizes.Reads as reads
-use Rattle.forms.proofs.read_sizes.Lts as lts
 use Rattle.forms.proofs.read_sizes.Statement.{statement}
 use Rattle.forms.proofs.read_sizes.Tie as tie
 

@@ -8,8 +8,7 @@ use Rattle.sets.specs.Largest.{largest}
 use Rattle.schedule.specs.Schedule.{scheduleOf}
 use Rattle.run.specs.Protocol.{fcwfa}
 use Rattle.text.specs.Reading.{longest, scheduleIn}
-use Rattle.forms.specs.Answers.{readingIs}
-use Rattle.reader.specs.Answers.{readAnswer}
+use Rattle.reader.specs.Answers.{readingIs, readAnswer}
 use Rattle.text.specs.Output.{outputOf}
 use Rattle.output.specs.Answers.{outputIs}
 use Rattle.output.proofs.Texts.{schedule-read, n-small, read-question, report-printed, line-shown, refusal-printed, counts, keeps-demand-3}

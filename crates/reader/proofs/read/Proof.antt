@@ -11,7 +11,7 @@ use Rattle.schedule.specs.Questions.{tablesOf}
 use Rattle.schedule.proofs.Accepted.{all-of-size}
 use Rattle.text.specs.Forms.{Sizes}
 use Rattle.text.specs.Reading.{longest, sizesIn, restQuestions}
-use Rattle.forms.specs.Answers.{readingIs}
+use Rattle.forms.specs.Answers.{headIs}
 use Rattle.reader.specs.Answers.{readQuestions}
 use Rattle.reader.specs.Parts.{askedIs}
 use Rattle.reader.proofs.Whole.{tables-refuse, head-refused, head-passed, read-refused, read-accepted, table-kept, table-read}
@@ -39,34 +39,21 @@ sized c = was-true (c .before .are-of-size .ensures) (c .if1 .left)
 read-head-requires : tie.Need-read-head-requires
 read-head-requires c κs = search needs
 
-enum-known-head : tie.Need-enum-known-head
-enum-known-head c = search needs
+enum-known-number : tie.Need-enum-known-number
+enum-known-number c = search needs
 
-enum-told : tie.Need-enum-told
-enum-told c = search needs
-
-returns-2 : tie.Need-returns-2
-returns-2 c =
-    let h = c .before .before in
-    let a = h .before .before .before .before .before .before .before .args in
-    let told = ap readingIs (c .enum-told .given .1) in
-    let e = head-refused (a .text .now) largest longest (a .votes .now) (a .crashes .now) (a .reaches .now) (sized (h .before)) (sym told ∙ h .read-head .ensures) in
-    record {
-      answered = told ∙ read-refused _ _ _ _ _ _ e;
-      votes-read = table-kept _ _ _ _ _ _ e _ _;
-      crashes-read = table-kept _ _ _ _ _ _ e _ _;
-      reaches-read = table-kept _ _ _ _ _ _ e _ _;
-    }
+enum-known-n : tie.Need-enum-known-n
+enum-known-n c = search needs
 
 -- the sizes are those of the text, and what is left to ask are the questions of the rest
-passed-head : (c : tie.After-head) → let a = c .before .before .before .before .before .before .before .before .before .args in let text = a .text .now in
+passed-head : (c : tie.After-n) → let a = c .before .before .before .before .before .before .before .before .before .args in let text = a .text .now in
     (readQuestions largest longest text (a .votes .now) (a .crashes .now) (a .reaches .now) ≡ restQuestions text)
-    × (sizesIn text ≡ record { n = c .head .given .0 .0; t = c .head .given .0 .1 .0 })
-    × (c .head .given .0 .0 ≤ largest)
+    × (sizesIn text ≡ record { n = c .n .given .0 .0; t = c .n .given .0 .1 .0 })
+    × (c .n .given .0 .0 ≤ largest)
 passed-head c =
     let h = c .before .before in
     let a = h .before .before .before .before .before .before .before .args in
-    head-passed (a .text .now) largest longest (a .votes .now) (a .crashes .now) (a .reaches .now) (sized (h .before)) (sym (ap readingIs (c .head .given .1)) ∙ h .read-head .ensures)
+    head-passed (a .text .now) largest longest (a .votes .now) (a .crashes .now) (a .reaches .now) (sized (h .before)) (sym (ap headIs (c .n .given .1)) ∙ h .read-head .ensures)
 
 read-rest-requires : tie.Need-read-rest-requires
 read-rest-requires c κs =
@@ -75,8 +62,23 @@ read-rest-requires c κs =
     let same = p .1 in
     ((p .2, ap (λ (s : Sizes). s .n) same, ap (λ (s : Sizes). s .t) same), all-of-size largest _ _ _ (sized (d .before .before .before)))
 
-enum-known-rest : tie.Need-enum-known-rest
-enum-known-rest c = search needs
+enum-known-number-2 : tie.Need-enum-known-number-2
+enum-known-number-2 c = search needs
+
+enum-told : tie.Need-enum-told
+enum-told c = search needs
+
+returns-2 : tie.Need-returns-2
+returns-2 c =
+    let h = c .before .before .before in
+    let a = h .before .before .before .before .before .before .before .args in
+    let e = head-refused (a .text .now) largest longest (a .votes .now) (a .crashes .now) (a .reaches .now) (sized (h .before)) (sym (ap headIs (c .before .number .given .1)) ∙ h .read-head .ensures) in
+    record {
+      answered = read-refused _ _ _ _ _ _ e;
+      votes-read = table-kept _ _ _ _ _ _ e _ _;
+      crashes-read = table-kept _ _ _ _ _ _ e _ _;
+      reaches-read = table-kept _ _ _ _ _ _ e _ _;
+    }
 
 same-length : tie.Need-same-length
 same-length c = search needs
@@ -95,16 +97,13 @@ returns-3 : tie.Need-returns-3
 returns-3 c =
     let r = c .before .before .before .before .before .before .before .before .before in
     let p = passed-head (r .before .before .before .before .before) .0 in
-    let e = sym (answered-by-rest r) ∙ ap askedIs (c .before .rest .given .1) in
+    let e = sym (answered-by-rest r) ∙ ap askedIs (c .before .number2 .given .1) in
     record {
       answered = read-refused _ _ _ _ _ _ e;
       votes-read = r .read-rest .ensures .1 .0 ∙ table-read _ _ _ _ _ _ p _ _;
       crashes-read = r .read-rest .ensures .1 .1 .0 ∙ table-read _ _ _ _ _ _ p _ _;
       reaches-read = r .read-rest .ensures .1 .1 .1 ∙ table-read _ _ _ _ _ _ p _ _;
     }
-
-enum-told-2 : tie.Need-enum-told-2
-enum-told-2 c = search needs
 
 same-length-4 : tie.Need-same-length-4
 same-length-4 c = search needs
@@ -120,7 +119,7 @@ returns-4 c =
     let r = c .before .before .before .before .before .before .before .before in
     let h = passed-head (r .before .before .before .before .before) in
     let p = h .0 in
-    let e = sym (answered-by-rest r) ∙ ap askedIs (c .enum-told2 .given .1) in
+    let e = sym (answered-by-rest r) ∙ ap askedIs (c .enum-told .given .1) in
     record {
       answered = ap accepted (sym (h .1)) ∙ read-accepted _ _ _ _ _ _ e;
       votes-read = r .read-rest .ensures .1 .0 ∙ table-read _ _ _ _ _ _ p _ _;
@@ -135,16 +134,16 @@ read-spec =
     are-of-size-requires
     returns
     read-head-requires
-    enum-known-head
+    enum-known-number
+    enum-known-n
+    read-rest-requires
+    enum-known-number-2
     enum-told
     returns-2
-    read-rest-requires
-    enum-known-rest
     same-length
     same-length-2
     same-length-3
     returns-3
-    enum-told-2
     same-length-4
     same-length-5
     same-length-6

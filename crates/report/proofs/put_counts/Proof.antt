@@ -2,9 +2,6 @@
 use borrow.Author.Needs.{needs}
 use Rattle.text.specs.Output.{countsLine}
 use Rattle.buffer.proofs.Written.{writes-more}
-use Rattle.report.proofs.put_counts.Reads as reads
-use Rattle.report.proofs.put_counts.Lts as lts
-use Rattle.buffer.proofs.put_field.Reads as put-field-reads
 use Rattle.report.proofs.put_counts.Statement.{statement}
 use Rattle.report.proofs.put_counts.Tie as tie
 

@@ -5,11 +5,6 @@ use Prim.Native.Nat.{ℕ}
 use borrow.Author.Needs.{needs}
 use Rattle.text.specs.Output.{decisionLine}
 use Rattle.buffer.proofs.Written.{writes-same, writes-more}
-use Rattle.report.proofs.put_decision.Reads as reads
-use Rattle.report.proofs.put_decision.Lts as lts
-use Rattle.buffer.proofs.put_byte.Reads as put-byte-reads
-use Rattle.buffer.proofs.put_field.Reads as put-field-reads
-use Rattle.report.proofs.decision_letter.Reads as decision-letter-reads
 use Rattle.report.proofs.put_decision.Statement.{statement}
 use Rattle.report.proofs.put_decision.Tie as tie
 

@@ -16,11 +16,11 @@ use Rattle.report.proofs.put_decisions.Statement.{statement}
 use Rattle.report.proofs.put_decisions.Tie as tie
 
 abbrev Inv-loop : tie.InvT-loop
-Inv-loop buffer₀ at decisions rounds next₀ i₀ buffer next i =
-    (i ≤ length decisions) × (length buffer ≡ length buffer₀) × Writes buffer₀ at buffer next (decisionLines i decisions rounds)
+Inv-loop bytes₀ at decisions decided next₀ i₀ bytes next i =
+    (i ≤ length decisions) × (length bytes ≡ length bytes₀) × Writes bytes₀ at bytes next (decisionLines i decisions decided)
 
 abbrev μ-loop : tie.MeasureT-loop
-μ-loop buffer₀ at decisions rounds next₀ i₀ buffer next i = length decisions - i
+μ-loop bytes₀ at decisions decided next₀ i₀ bytes next i = length decisions - i
 
 -- the lines of no processes, and of one more
 no-lines : (decisions rounds : List ℕ) → [] ≡ decisionLines 0 decisions rounds
@@ -59,7 +59,7 @@ loop-again : tie.Need-loop-again Inv-loop μ-loop
 loop-again c =
     let k = c .before .before .before .before .before .before .before in
     let a = k .before .before .before .before .args in
-    (omega arith, omega arith, writes-same (one-line (a .decisions .now) (a .rounds .now) (k .loop .i) (omega arith)) (writes-more _ _ (k .loop .inv .2) (c .before .before .put-decision .ensures)))
+    (omega arith, omega arith, writes-same (one-line (a .decisions .now) (a .decided .now) (k .loop .i) (omega arith)) (writes-more _ _ (k .loop .inv .2) (c .before .before .put-decision .ensures)))
 
 same-length : tie.Need-same-length Inv-loop μ-loop
 same-length c = c .before .loop .inv .1
@@ -67,7 +67,7 @@ same-length c = c .before .loop .inv .1
 returns : tie.Need-returns Inv-loop μ-loop
 returns c =
     let a = c .before .before .before .before .before .args in
-    writes-same (ap (λ (n : ℕ). decisionLines n (a .decisions .now) (a .rounds .now)) (omega arith)) (c .before .loop .inv .2)
+    writes-same (ap (λ (n : ℕ). decisionLines n (a .decisions .now) (a .decided .now)) (omega arith)) (c .before .loop .inv .2)
 
 pub put-decisions-spec : {M : Type 1} → statement M
 put-decisions-spec =

@@ -2,11 +2,6 @@
 use borrow.Author.Needs.{needs}
 use Rattle.text.specs.Output.{reportText}
 use Rattle.buffer.proofs.Written.{writes-more}
-use Rattle.report.proofs.put_lines.Reads as reads
-use Rattle.report.proofs.put_lines.Lts as lts
-use Rattle.buffer.proofs.put.Reads as put-reads
-use Rattle.report.proofs.put_counts.Reads as put-counts-reads
-use Rattle.report.proofs.put_decisions.Reads as put-decisions-reads
 use Rattle.report.proofs.put_lines.Statement.{statement}
 use Rattle.report.proofs.put_lines.Tie as tie
 

@@ -2,11 +2,6 @@
 use borrow.Author.Needs.{needs}
 use Rattle.text.specs.Output.{refusalText}
 use Rattle.buffer.proofs.Written.{writes-more}
-use Rattle.report.proofs.put_refusal.Reads as reads
-use Rattle.report.proofs.put_refusal.Lts as lts
-use Rattle.buffer.proofs.put.Reads as put-reads
-use Rattle.buffer.proofs.put_byte.Reads as put-byte-reads
-use Rattle.buffer.proofs.put_field.Reads as put-field-reads
 use Rattle.report.proofs.put_refusal.Statement.{statement}
 use Rattle.report.proofs.put_refusal.Tie as tie
 

@@ -18,7 +18,7 @@ are-decisions-requires : tie.Need-are-decisions-requires
 are-decisions-requires c κs = search needs
 
 -- the tables are of one length
-one-length : (c : tie.Else1) → let a = c .before .before .before .before .args in length (a .rounds .now) ≡ length (a .decisions .now)
+one-length : (c : tie.Else1) → let a = c .before .before .before .before .args in length (a .decided .now) ≡ length (a .decisions .now)
 one-length c = omega arith
 
 returns-2 : tie.Need-returns-2

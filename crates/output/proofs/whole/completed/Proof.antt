@@ -31,8 +31,8 @@ blank-output-requires c κs = search needs
 simulate-requires : tie.Need-simulate-requires
 simulate-requires c κs = search needs
 
-enum-known-run : tie.Need-enum-known-run
-enum-known-run c = search needs
+enum-known-answer : tie.Need-enum-known-answer
+enum-known-answer c = search needs
 
 enum-told : tie.Need-enum-told
 enum-told c = search needs
@@ -54,7 +54,7 @@ abbrev lentDecisions : tie.After-simulate → List ℕ
 lentDecisions c = now (c .before .before .before .before .before .before .before .before .before .args .decisions)
 
 abbrev lentRounds : tie.After-simulate → List ℕ
-lentRounds c = now (c .before .before .before .before .before .before .before .before .before .args .rounds)
+lentRounds c = now (c .before .before .before .before .before .before .before .before .before .args .decided)
 
 -- it is accepted, so the simulator gives the counts of its report
 counted : (c : tie.After-simulate) → simulatedIs (c .simulate .result) ≡ accepted (countsOf (report fcwfa (given c)))
@@ -83,12 +83,12 @@ same-length-4 : tie.Need-same-length-4
 same-length-4 c = search needs
 
 -- the counts are numbers of 64 bits
-of-64-bits : (c : tie.After-known-told) → let k = c .before .run .given .0 .0 in (k .f < 2 ^ 64) × (k .first < 2 ^ 64) × (k .last < 2 ^ 64) × (k .messages < 2 ^ 64)
+of-64-bits : (c : tie.After-known-told) → let k = c .before .answer .given .0 .0 in (k .f < 2 ^ 64) × (k .first < 2 ^ 64) × (k .last < 2 ^ 64) × (k .messages < 2 ^ 64)
 of-64-bits c = (search needs, search needs, search needs, search needs)
 
 -- what is printed is the report
 -- what is given is shown, and is the report
-all-shown : (c : tie.After-put-report) → let d = c .before .before .before .before .before .before .before .before .before .before .before in let s = given d in let k = c .before .before .before .before .before .run .given .0 .0 in
+all-shown : (c : tie.After-put-report) → let d = c .before .before .before .before .before .before .before .before .before .before .before in let s = given d in let k = c .before .before .before .before .before .answer .given .0 .0 in
     shown (s .t) k (d .simulate .last .1 .1 .1 .1 .1 .0) (d .simulate .last .1 .1 .1 .1 .1 .1 .0)
     ≡ reportText (length (d .simulate .last .1 .1 .1 .1 .1 .0)) (s .t) (givenBy k (d .simulate .last .1 .1 .1 .1 .1 .0) (d .simulate .last .1 .1 .1 .1 .1 .1 .0))
 all-shown c =
@@ -99,21 +99,21 @@ all-shown c =
     let rounds : length (d .simulate .last .1 .1 .1 .1 .1 .1 .0) ≡ s .n = ap length (timed d) ∙ rounds-long s largest _ pre in
     shown-all (s .t) _ _ _ (rounds ∙ sym long) (ap areDecisions (decided d) ∙ all-decisions s largest _ pre)
 
-same-text : (c : tie.After-put-report) → let d = c .before .before .before .before .before .before .before .before .before .before .before in let s = given d in let k = c .before .before .before .before .before .run .given .0 .0 in
+same-text : (c : tie.After-put-report) → let d = c .before .before .before .before .before .before .before .before .before .before .before in let s = given d in let k = c .before .before .before .before .before .answer .given .0 .0 in
     reportText (length (d .simulate .last .1 .1 .1 .1 .1 .0)) (s .t) (givenBy k (d .simulate .last .1 .1 .1 .1 .1 .0) (d .simulate .last .1 .1 .1 .1 .1 .1 .0))
     ≡ reportText (s .n) (s .t) (report fcwfa s)
 same-text c =
     let d = c .before .before .before .before .before .before .before .before .before .before .before in
     let s = given d in
     let pre = d .before .before .before .before .before .before .before .before .before .pre in
-    print-given (report fcwfa s) (s .n) (s .t) _ _ _ (ap length (decided d) ∙ decisions-long s largest _ pre) (sym (ap simulatedIs (c .before .before .before .before .before .run .given .1)) ∙ counted d) (decided d) (timed d)
+    print-given (report fcwfa s) (s .n) (s .t) _ _ _ (ap length (decided d) ∙ decisions-long s largest _ pre) (sym (ap simulatedIs (c .before .before .before .before .before .answer .given .1)) ∙ counted d) (decided d) (timed d)
 
 returns-2 : tie.Need-returns-2
 returns-2 c =
     let d = c .before .before .before .before .before .before .before .before .before .before .before .before in
     let s = given d in
     let pre = d .before .before .before .before .before .before .before .before .before .pre in
-    let k = c .before .before .before .before .before .before .run .given .0 .0 in
+    let k = c .before .before .before .before .before .before .answer .given .0 .0 in
     let n : s .n ≤ largest = n-small s largest _ pre in
     let long : length (d .simulate .last .1 .1 .1 .1 .1 .0) ≡ s .n = ap length (decided d) ∙ decisions-long s largest _ pre in
     let t : s .t < 2 ^ 64 = search needs in
@@ -130,7 +130,7 @@ completed-spec =
     (tie.spec
     blank-output-requires
     simulate-requires
-    enum-known-run
+    enum-known-answer
     enum-told
     same-length
     same-length-2

@@ -40,8 +40,8 @@ array-borrow-prefix-decisions c = search needs
 slice-aggregate-completed-4 : tie.Need-slice-aggregate-completed-4
 slice-aggregate-completed-4 c = sym (length-take-le (c .before .before .before .before .before .before .args .n) (c .before .before .before .before .before .zero-bytes .result) (search needs))
 
-array-borrow-prefix-rounds : tie.Need-array-borrow-prefix-rounds
-array-borrow-prefix-rounds c = search needs
+array-borrow-prefix-decided : tie.Need-array-borrow-prefix-decided
+array-borrow-prefix-decided c = search needs
 
 slice-aggregate-completed-5 : tie.Need-slice-aggregate-completed-5
 slice-aggregate-completed-5 c = sym (length-take-le (c .before .before .before .before .before .before .before .args .n) (c .before .before .before .before .before .zero-bytes2 .result) (search needs))
@@ -70,7 +70,7 @@ of-tables-spec =
     slice-aggregate-completed-3
     array-borrow-prefix-decisions
     slice-aggregate-completed-4
-    array-borrow-prefix-rounds
+    array-borrow-prefix-decided
     slice-aggregate-completed-5
     completed-requires
     returns)

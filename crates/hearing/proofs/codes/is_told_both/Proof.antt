@@ -4,8 +4,8 @@ use Rattle.laws.proofs.Test.{and-goes-on, and-ends}
 use native.Mathlib.Omega.{arith}
 use Rattle.member.specs.Hearing.{toldBoth}
 use borrow.Author.Tests.{lt-ltb, le-ltb}
-use Rattle.hearing.proofs.row.is_told_both.Statement.{statement}
-use Rattle.hearing.proofs.row.is_told_both.Tie as tie
+use Rattle.hearing.proofs.codes.is_told_both.Statement.{statement}
+use Rattle.hearing.proofs.codes.is_told_both.Tie as tie
 
 returns : tie.Need-returns
 unfolding toldBoth

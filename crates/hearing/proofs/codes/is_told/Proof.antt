@@ -4,8 +4,8 @@ use Rattle.laws.proofs.Test.{or-goes-on, or-ends}
 use native.Mathlib.Omega.{arith}
 use Rattle.member.specs.Hearing.{told}
 use borrow.Author.Tests.{lt-ltb, le-ltb}
-use Rattle.hearing.proofs.row.is_told.Statement.{statement}
-use Rattle.hearing.proofs.row.is_told.Tie as tie
+use Rattle.hearing.proofs.codes.is_told.Statement.{statement}
+use Rattle.hearing.proofs.codes.is_told.Tie as tie
 
 returns : tie.Need-returns
 unfolding told

@@ -5,8 +5,8 @@ use native.Mathlib.Omega.{arith}
 use borrow.Author.Needs.{needs}
 use Rattle.laws.proofs.Below.{count-none, count-step, count-room}
 use Rattle.hearing.proofs.Counted.{Counted, counted-all}
-use Rattle.hearing.proofs.row.tally.Statement.{statement}
-use Rattle.hearing.proofs.row.tally.Tie as tie
+use Rattle.hearing.proofs.codes.tally.Statement.{statement}
+use Rattle.hearing.proofs.codes.tally.Tie as tie
 
 abbrev Inv-loop : tie.InvT-loop
 Inv-loop row zeros₀ ones₀ aborts₀ commits₀ others₀ i₀ zeros ones aborts commits others i = (i ≤ length row) × Counted row i zeros ones aborts commits others

@@ -6,8 +6,8 @@ use native.Mathlib.Omega.{arith}
 use borrow.Author.Tests.{le-leb, lt-leb}
 use Rattle.member.specs.Hearing.{told, toldEarly}
 use borrow.Author.Needs.{needs}
-use Rattle.hearing.proofs.row.is_told_early.Statement.{statement}
-use Rattle.hearing.proofs.row.is_told_early.Tie as tie
+use Rattle.hearing.proofs.codes.is_told_early.Statement.{statement}
+use Rattle.hearing.proofs.codes.is_told_early.Tie as tie
 
 is-told-requires : tie.Need-is-told-requires
 is-told-requires c κs = search needs

@@ -8,8 +8,8 @@ use Rattle.member.specs.declared.Member.{Member}
 use Rattle.member.specs.Saying.{says}
 use Rattle.member.specs.Hearing.{toldBoth}
 use Rattle.member.specs.Questions.{rowQuestion}
-use Rattle.hearing.proofs.row.row_question.Statement.{statement}
-use Rattle.hearing.proofs.row.row_question.Tie as tie
+use Rattle.hearing.proofs.codes.row_question.Statement.{statement}
+use Rattle.hearing.proofs.codes.row_question.Tie as tie
 
 returns : tie.Need-returns
 unfolding rowQuestion ask
