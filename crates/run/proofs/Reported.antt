@@ -13,7 +13,7 @@ use Rattle.member.specs.declared.Member.{Member}
 use Rattle.schedule.specs.Schedule.{Schedule}
 use Rattle.schedule.specs.Questions.{Rules}
 use Rattle.schedule.proofs.Crashes.{all-crashes}
-use Rattle.run.specs.Protocol.{fcwfa, nobody}
+use Rattle.run.specs.Protocol.{Protocol, fcwfa, nobody}
 use Rattle.run.specs.Run.{stateAt, final}
 use Rattle.run.specs.Report.{roundOf, decisionOf, report}
 use Rattle.run.specs.Facts.{Reported}
@@ -23,19 +23,19 @@ use Rattle.run.proofs.FcwfaRun.{runWorld, laws}
 use Rattle.run.proofs.Demand.{end-is}
 
 -- the table of rounds, read at any place, even past its end
-module _ (s : Schedule) where
-  pub final-long : length (final fcwfa s) ≡ s .n
+module _ (P : Protocol) (s : Schedule) where
+  final-long : length (final P s) ≡ s .n
   unfolding final
-  final-long = states-long fcwfa s (s .t + 1)
+  final-long = states-long P s (s .t + 1)
 
-  pub rounds-read : (i : ℕ) → getD (report fcwfa s .rounds) i 0 ≡ roundOf (final fcwfa s) i
+  pub rounds-read : (i : ℕ) → getD (report P s .rounds) i 0 ≡ roundOf (final P s) i
   rounds-read i =
       elim (split (s .n) i) [
         | inl a ↦
-            let e = length-tabulate (s .n) (roundOf (final fcwfa s)) in
+            let e = length-tabulate (s .n) (roundOf (final P s)) in
             let f = final-long in
-            List·getD-eq-default (report fcwfa s .rounds) 0 (omega arith) ∙ sym (ap (λ (m : Member). m .decided) (List·getD-eq-default (final fcwfa s) (nobody) (omega arith)))
-        | inr a ↦ getD-tabulate (s .n) (roundOf (final fcwfa s)) i 0 a
+            List·getD-eq-default (report P s .rounds) 0 (omega arith) ∙ sym (ap (λ (m : Member). m .decided) (List·getD-eq-default (final P s) nobody (omega arith)))
+        | inr a ↦ getD-tabulate (s .n) (roundOf (final P s)) i 0 a
       ]
 
 module _ (s : Schedule) (ok : Rules s) where
@@ -46,7 +46,7 @@ module _ (s : Schedule) (ok : Rules s) where
   value i = stateAt (final fcwfa s) i .estimate
 
   round-at : (i : ℕ) → i < s .n → getD (report fcwfa s .rounds) i 0 ≡ ended i
-  round-at i l = rounds-read s i
+  round-at i l = rounds-read fcwfa s i
 
   decided-at : (i : ℕ) → i < s .n → ended i ≢ 0 → getD (report fcwfa s .decisions) i 2 ≡ value i
   unfolding decisionOf

@@ -2,8 +2,8 @@
 -- those of the states at the end of the run, and demand 3 holds of the report. Assumes nothing.
 use mathlib.Core.Path.{_≡_, sym, ap, _∙_, subst}
 use mathlib.Core.List.{List}
-use mathlib.Core.Bool.{cond}
-use Prim.Native.Nat.{ℕ, _≤_, _<_}
+use mathlib.Core.Bool.{Bool, cond}
+use Prim.Native.Nat.{ℕ, _+_, _≤_, _<_, min}
 use native.Mathlib.Omega.{arith}
 use lib.Dec.{eqb}
 use lib.ListN.{length, getD}
@@ -14,22 +14,24 @@ use Rattle.laws.proofs.Answer.{answer-accepted, answer-refused, valueOr, not-ac
 use Rattle.member.specs.declared.Member.{Member}
 use Rattle.sets.specs.Largest.{largest}
 use Rattle.schedule.specs.Schedule.{Schedule, crashesIn}
-use Rattle.schedule.specs.Questions.{answersOf, Accepted}
+use Rattle.schedule.specs.Questions.{answersOf, question, Accepted}
 use Rattle.schedule.proofs.Accepted.{both-long, question-accepted}
-use Rattle.run.specs.Protocol.{fcwfa}
+use Rattle.run.specs.Protocol.{Protocol, fcwfa, nobody}
 use Rattle.run.specs.Run.{stateAt, final}
 use Rattle.run.specs.Report.{roundOf, decisionOf, firstOf, lastOf, messages, report}
 use Rattle.run.specs.Given.{GivenDemand3}
 use Rattle.run.proofs.Reported.{rounds-read}
 use Rattle.run.proofs.Theorem.{accepted-run}
-use Rattle.rounds.specs.declared.Ran.{Ran}
-use Rattle.rounds.specs.Ran.{ranOf}
+use Rattle.execution.specs.declared.Ran.{Ran}
+use Rattle.execution.specs.Rounds.{noMembers}
+use Rattle.execution.specs.Ran.{membersAfter, messagesAfter, ranOf}
 use Rattle.simulator.specs.declared.Counts.{Counts}
 use Rattle.simulator.specs.declared.Simulated.the-variants.{Completed, Refused}
 use Rattle.simulator.specs.Answers.{simulatedIs, countsOf, simulateQuestion, simulateAnswer, decisionsAfter, roundsAfter, givenBy, AnswersKeepDemand3}
 
 -- A call for which the rounds leave `ran`.
-module _ (s : Schedule) (decisions rounds : List ℕ) {ran : Ran} (left : ran ≡ ranOf largest s (answersOf (s .n) (length decisions) (length rounds))) where
+module _ (P : Protocol) (s : Schedule) (decisions rounds : List ℕ) {ran : Ran}
+    (left : ran ≡ ranOf P largest s (answersOf (s .n) (length decisions) (length rounds)) (min largest (s .t + 1))) where
   asked : ran .question ≡ simulateQuestion largest s decisions rounds
   asked = ap (λ (r : Ran). r .question) left
 
@@ -37,7 +39,7 @@ module _ (s : Schedule) (decisions rounds : List ℕ) {ran : Ran} (left : ran �
     refusing : simulateQuestion largest s decisions rounds ≡ 0 → ⊥
     refusing e = no (asked ∙ e)
 
-    pub refused-answer : refused (ran .question) tt ≡ simulateAnswer largest s decisions rounds
+    pub refused-answer : refused (ran .question) tt ≡ simulateAnswer P largest s decisions rounds
     unfolding simulateAnswer
     refused-answer = ap (λ (k : ℕ). refused k tt) asked ∙ sym (answer-refused _ _ tt refusing)
 
@@ -48,7 +50,7 @@ module _ (s : Schedule) (decisions rounds : List ℕ) {ran : Ran} (left : ran �
     refused-keeps = record { kept = λ counts e. absurd (not-accepted e) }
 
   module _ (yes? : ran .question ≡ 0) where
-    passed : simulateQuestion largest s decisions rounds ≡ 0
+    pub passed : simulateQuestion largest s decisions rounds ≡ 0
     passed = sym asked ∙ yes?
 
     accepts : Accepted s largest (answersOf (s .n) (length decisions) (length rounds))
@@ -64,26 +66,41 @@ module _ (s : Schedule) (decisions rounds : List ℕ) {ran : Ran} (left : ran �
     given-table : (given lent : List ℕ) → given ≡ placeAfter (simulateQuestion largest s decisions rounds) given lent
     given-table given lent = sym (place-given _ given lent passed)
 
-    -- the members are the states at the end of the run, and the messages those of the run
-    members-are : ran .members ≡ tabulate largest (stateAt (final fcwfa s))
-    members-are = ap (λ (r : Ran). r .members) left ∙ place-given _ (tabulate largest (stateAt (final fcwfa s))) _ passed
+    -- the rounds that are played are all of the run: t is below n, and n at most the largest
+    all-rounds : min largest (s .t + 1) ≡ s .t + 1
+    all-rounds =
+        let n-high = accepts .n-high in
+        let t-high = accepts .rules .t-high in
+        omega arith
 
-    state-at : (i : ℕ) → i < s .n → stateAt (ran .members) i ≡ stateAt (final fcwfa s) i
+    -- the members are the states at the end of the run, and the messages those of the run
+    members-are : ran .members ≡ tabulate largest (stateAt (final P s))
+    unfolding final
+    members-are =
+        ap (λ (r : Ran). r .members) left
+        ∙ place-given _ (membersAfter P s (min largest (s .t + 1))) noMembers passed
+        ∙ ap (membersAfter P s) all-rounds
+
+    state-at : (i : ℕ) → i < s .n → stateAt (ran .members) i ≡ stateAt (final P s) i
     state-at i l =
         let n-high = small in
-        ap (λ (states : List Member). stateAt states i) members-are ∙ getD-tabulate largest (stateAt (final fcwfa s)) i (nobody) (omega arith)
+        ap (λ (states : List Member). stateAt states i) members-are ∙ getD-tabulate largest (stateAt (final P s)) i nobody (omega arith)
 
-    messages-are : ran .messages ≡ messages fcwfa s
-    messages-are = ap (λ (r : Ran). r .messages) left ∙ place-given _ (messages fcwfa s) 0 passed
+    messages-are : ran .messages ≡ messages P s
+    unfolding messages
+    messages-are =
+        ap (λ (r : Ran). r .messages) left
+        ∙ place-given _ (messagesAfter P s (min largest (s .t + 1))) 0 passed
+        ∙ ap (messagesAfter P s) all-rounds
 
-    decisions-are : {given : List ℕ} → given ≡ tabulate (length decisions) (decisionOf (ran .members)) → given ≡ report fcwfa s .decisions
+    decisions-are : {given : List ℕ} → given ≡ tabulate (length decisions) (decisionOf (ran .members)) → given ≡ report P s .decisions
     unfolding decisionOf
     decisions-are e =
         e
         ∙ ap (λ (k : ℕ). tabulate k (decisionOf (ran .members))) (tables-long .0)
         ∙ tabulate-same (s .n) _ _ (λ i l. ap (λ (m : Member). cond (eqb (m .decided) 0) 2 (m .estimate)) (state-at i l))
 
-    rounds-are : {given : List ℕ} → given ≡ tabulate (length rounds) (roundOf (ran .members)) → given ≡ report fcwfa s .rounds
+    rounds-are : {given : List ℕ} → given ≡ tabulate (length rounds) (roundOf (ran .members)) → given ≡ report P s .rounds
     rounds-are e =
         e
         ∙ ap (λ (k : ℕ). tabulate k (roundOf (ran .members))) (tables-long .1)
@@ -99,13 +116,13 @@ module _ (s : Schedule) (decisions rounds : List ℕ) {ran : Ran} (left : ran �
           last = lastOf (λ i. getD rounds-now i 0) (length rounds-now);
           messages = ran .messages;
         }) where
-      rounds-at : (λ (i : ℕ). getD rounds-now i 0) ≡ roundOf (final fcwfa s)
-      rounds-at k i = (ap (λ (l : List ℕ). getD l i 0) (rounds-are r) ∙ rounds-read s i) k
+      rounds-at : (λ (i : ℕ). getD rounds-now i 0) ≡ roundOf (final P s)
+      rounds-at k i = (ap (λ (l : List ℕ). getD l i 0) (rounds-are r) ∙ rounds-read P s i) k
 
       rounds-long : length rounds-now ≡ s .n
-      rounds-long = ap length (rounds-are r) ∙ length-tabulate (s .n) (roundOf (final fcwfa s))
+      rounds-long = ap length (rounds-are r) ∙ length-tabulate (s .n) (roundOf (final P s))
 
-      counts-are : c ≡ countsOf (report fcwfa s)
+      counts-are : c ≡ countsOf (report P s)
       counts-are =
           found
           ∙ (λ i. record {
@@ -115,19 +132,20 @@ module _ (s : Schedule) (decisions rounds : List ℕ) {ran : Ran} (left : ran �
             messages = messages-are i;
           })
 
-      pub completed-answer : accepted c ≡ simulateAnswer largest s decisions rounds
+      pub completed-answer : accepted c ≡ simulateAnswer P largest s decisions rounds
       unfolding simulateAnswer
       completed-answer = ap (λ (k : Counts). accepted k) counts-are ∙ sym (answer-accepted _ _ tt passed)
 
-      pub given-decisions : decisions-now ≡ decisionsAfter largest s decisions rounds
-      given-decisions = decisions-are d ∙ given-table (report fcwfa s .decisions) decisions
+      pub given-decisions : decisions-now ≡ decisionsAfter P largest s decisions rounds
+      given-decisions = decisions-are d ∙ given-table (report P s .decisions) decisions
 
-      pub given-rounds : rounds-now ≡ roundsAfter largest s decisions rounds
-      given-rounds = rounds-are r ∙ given-table (report fcwfa s .rounds) rounds
+      pub given-rounds : rounds-now ≡ roundsAfter P largest s decisions rounds
+      given-rounds = rounds-are r ∙ given-table (report P s .rounds) rounds
 
-      given-is : (k : Counts) → simulatedIs (Completed c) ≡ accepted k → givenBy k decisions-now rounds-now ≡ report fcwfa s
+      -- what was given is the report
+      pub given-is : (k : Counts) → simulatedIs (Completed c) ≡ accepted k → givenBy k decisions-now rounds-now ≡ report P s
       given-is k e =
-          let counts : k ≡ countsOf (report fcwfa s) = sym (ap (valueOr k) e) ∙ counts-are in
+          let counts : k ≡ countsOf (report P s) = sym (ap (valueOr k) e) ∙ counts-are in
           λ i. record {
             f = counts i .f;
             first = counts i .first;
@@ -137,6 +155,8 @@ module _ (s : Schedule) (decisions rounds : List ℕ) {ran : Ran} (left : ran �
             rounds = rounds-are r i;
           }
 
-      pub completed-keeps : AnswersKeepDemand3 s (Completed c) decisions-now rounds-now
-      completed-keeps =
-          record { kept = λ k e. subst (GivenDemand3 s) (sym (given-is k e)) (accepted-run s largest (answersOf (s .n) (length decisions) (length rounds)) passed .given-demand-3) }
+-- and demand 3 holds of the report of FCWFA
+pub completed-keeps : (s : Schedule) (answers : Bool) {c : Counts} {decisions rounds : List ℕ} → question s largest answers ≡ 0
+    → ((k : Counts) → simulatedIs (Completed c) ≡ accepted k → givenBy k decisions rounds ≡ report fcwfa s) → AnswersKeepDemand3 s (Completed c) decisions rounds
+completed-keeps s answers passed is =
+    record { kept = λ k e. subst (GivenDemand3 s) (sym (is k e)) (accepted-run s largest answers passed .given-demand-3) }

@@ -7,7 +7,7 @@ use Rattle.laws.specs.Answer.{Answer, accepted, refused, answer, placeAfter}
 use Rattle.sets.specs.Largest.{largest}
 use Rattle.schedule.specs.Schedule.{Schedule}
 use Rattle.schedule.specs.Questions.{answersOf, question}
-use Rattle.run.specs.Protocol.{fcwfa}
+use Rattle.run.specs.Protocol.{Protocol, fcwfa}
 use Rattle.run.specs.Report.{Report, report}
 use Rattle.run.specs.Given.{GivenDemand3}
 use Rattle.simulator.specs.declared.Counts.{Counts}
@@ -24,20 +24,22 @@ abbrev pub countsOf : Report → Counts
 countsOf given = record { f = given .f; first = given .first; last = given .last; messages = given .messages }
 
 -- A call with a schedule and two answer tables: `limit` is the largest n that is accepted.
-module _ (limit : ℕ) (s : Schedule) (decisions rounds : List ℕ) where
-  -- the number of its first question whose answer is no, or 0
-  abbrev pub simulateQuestion : ℕ
-  simulateQuestion = question s limit (answersOf (s .n) (length decisions) (length rounds))
 
+-- the number of its first question whose answer is no, or 0
+abbrev pub simulateQuestion : ℕ → Schedule → List ℕ → List ℕ → ℕ
+simulateQuestion limit s decisions rounds = question s limit (answersOf (s .n) (length decisions) (length rounds))
+
+-- of a run under any protocol
+module _ (P : Protocol) (limit : ℕ) (s : Schedule) (decisions rounds : List ℕ) where
   unfoldable pub simulateAnswer : Answer Counts (Unit {0})
-  simulateAnswer = answer simulateQuestion (countsOf (report fcwfa s)) tt
+  simulateAnswer = answer (simulateQuestion limit s decisions rounds) (countsOf (report P s)) tt
 
   -- the tables after the call: what is given for each, or as it was lent if the call is refused
   abbrev pub decisionsAfter : List ℕ
-  decisionsAfter = placeAfter simulateQuestion (report fcwfa s .decisions) decisions
+  decisionsAfter = placeAfter (simulateQuestion limit s decisions rounds) (report P s .decisions) decisions
 
   abbrev pub roundsAfter : List ℕ
-  roundsAfter = placeAfter simulateQuestion (report fcwfa s .rounds) rounds
+  roundsAfter = placeAfter (simulateQuestion limit s decisions rounds) (report P s .rounds) rounds
 
 -- what the call gave, as a report: its counts, and the two tables after it
 abbrev pub givenBy : Counts → List ℕ → List ℕ → Report
@@ -56,7 +58,7 @@ pub record AnswersKeepDemand3 (s : Schedule) (r : Simulated) (decisions rounds :
 
 -- What the call promises: of its answer, and of the two tables after it.
 pub record Simulates (s : Schedule) (decisions rounds : List ℕ) (r : Simulated) (decisionsNow roundsNow : List ℕ) : Type 0 where
-  pub answered : simulatedIs r ≡ simulateAnswer largest s decisions rounds
-  pub decisions-given : decisionsNow ≡ decisionsAfter largest s decisions rounds
-  pub rounds-given : roundsNow ≡ roundsAfter largest s decisions rounds
+  pub answered : simulatedIs r ≡ simulateAnswer fcwfa largest s decisions rounds
+  pub decisions-given : decisionsNow ≡ decisionsAfter fcwfa largest s decisions rounds
+  pub rounds-given : roundsNow ≡ roundsAfter fcwfa largest s decisions rounds
   pub demand-3 : AnswersKeepDemand3 s r decisionsNow roundsNow

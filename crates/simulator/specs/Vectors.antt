@@ -7,6 +7,7 @@ use Rattle.laws.specs.Answer.{Answer, accepted, refused}
 use Rattle.sets.specs.Largest.{largest}
 use Rattle.schedule.specs.Four.{four, allOne, allZero}
 use Rattle.schedule.specs.Schedule.{Schedule, scheduleOf}
+use Rattle.run.specs.Protocol.{fcwfa}
 use Rattle.simulator.specs.declared.Counts.{Counts}
 use Rattle.simulator.specs.declared.Simulated.the-variants.{Completed, Refused}
 use Rattle.simulator.specs.Answers.{simulatedIs, countsOf, simulateAnswer, decisionsAfter, roundsAfter, givenBy}
@@ -62,9 +63,9 @@ calls =
 
 -- each of these calls has its answer, and leaves its tables
 pub record SimulatorVectors : Type 0 where
-  pub answered : map (λ c. simulateAnswer largest (c .schedule) (c .decisions) (c .rounds)) calls ≡ map (λ c. c .answer) calls
-  pub decided : map (λ c. decisionsAfter largest (c .schedule) (c .decisions) (c .rounds)) calls ≡ map (λ c. c .decisionsNow) calls
-  pub timed : map (λ c. roundsAfter largest (c .schedule) (c .decisions) (c .rounds)) calls ≡ map (λ c. c .roundsNow) calls
+  pub answered : map (λ c. simulateAnswer fcwfa largest (c .schedule) (c .decisions) (c .rounds)) calls ≡ map (λ c. c .answer) calls
+  pub decided : map (λ c. decisionsAfter fcwfa largest (c .schedule) (c .decisions) (c .rounds)) calls ≡ map (λ c. c .decisionsNow) calls
+  pub timed : map (λ c. roundsAfter fcwfa largest (c .schedule) (c .decisions) (c .rounds)) calls ≡ map (λ c. c .roundsNow) calls
 
 -- What each case of the answer's enum stands for, and the report that counts and tables make: its values are not exchanged.
 pub record SimulatedCases (counts : Counts) (decisions rounds : List ℕ) : Type 0 where

@@ -1,12 +1,14 @@
 // Runs a schedule given in tables to its end (document 01, "Who hears whom").
 //
-// `simulate` has the questions asked and the rounds played by `run` of the crate `rounds`, fills the two
-// answer tables and answers the counts. It takes anything, and has no `requires`.
-mod answers;
+// `simulate` has the questions asked and the rounds played by `play_rounds` of the crate `execution`, fills
+// the two answer tables and answers the counts. It takes anything, and has no `requires`.
+mod tables;
 
 ghost use Rattle.schedule.specs.Schedule.{scheduleOf};
 ghost use Rattle.simulator.specs.Answers.{Simulates};
+use execution::play_rounds;
 use sets::Set;
+use sets::WIDTH;
 
 // The counts of the report.
 pub struct Counts {
@@ -22,7 +24,8 @@ pub enum Simulated {
     Refused(u8),
 }
 
-// The run of the schedule of these tables: `decisions` and `rounds` get the decision of each process, 2
+// The run of the schedule of these tables to its end: no run has more rounds than the largest cluster has
+// processes. `decisions` and `rounds` get the decision of each process, 2
 // for none, and its round, 0 for none. A refused call leaves both as they were lent.
 pub fn simulate(
     n: usize,
@@ -35,12 +38,21 @@ pub fn simulate(
 ) -> Simulated
     ensures simulated { λ r. ⌜ Simulates (scheduleOf n t (now (votes .entry)) (now (crashes .entry)) (now (reaches .entry))) (now (decisions .entry)) (now (rounds .entry)) r (now (decisions .exit)) (now (rounds .exit)) ⌝ }
 {
-    let ran = rounds::run(n, t, votes, crashes, reaches, decisions.len(), rounds.len());
+    let ran = play_rounds(
+        n,
+        t,
+        votes,
+        crashes,
+        reaches,
+        decisions.len(),
+        rounds.len(),
+        WIDTH,
+    );
     let question = ran.question;
     if question != 0 {
         return Simulated::Refused(question);
     }
     let members = ran.members;
-    answers::fill(members, decisions, rounds);
-    Simulated::Completed(answers::counts_of(crashes, &rounds[..], ran.messages))
+    tables::fill(members, decisions, rounds);
+    Simulated::Completed(tables::counts_of(crashes, &rounds[..], ran.messages))
 }

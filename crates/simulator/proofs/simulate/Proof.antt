@@ -4,12 +4,13 @@ use native.Mathlib.Omega.{arith}
 use borrow.Author.Needs.{needs}
 use denote.Ref.{now}
 use Rattle.schedule.specs.Schedule.{scheduleOf}
-use Rattle.simulator.proofs.Whole.{refused-answer, kept-table, refused-keeps, tables-long, small, completed-answer, given-decisions, given-rounds, completed-keeps}
+use Rattle.run.specs.Protocol.{fcwfa}
+use Rattle.simulator.proofs.Whole.{refused-answer, kept-table, refused-keeps, tables-long, small, completed-answer, given-decisions, given-rounds, given-is, passed, completed-keeps}
 use Rattle.simulator.proofs.simulate.Statement.{statement}
 use Rattle.simulator.proofs.simulate.Tie as tie
 
-run-requires : tie.Need-run-requires
-run-requires c κs = search needs
+play-rounds-requires : tie.Need-play-rounds-requires
+play-rounds-requires c κs = search needs
 
 returns : tie.Need-returns
 returns c =
@@ -17,12 +18,12 @@ returns c =
     let s = scheduleOf (a .n) (a .t) (now (a .votes)) (now (a .crashes)) (now (a .reaches)) in
     let d = now (a .decisions) in
     let r = now (a .rounds) in
-    let left = c .before .run .ensures in
+    let left = c .before .play-rounds .ensures in
     record {
-      answered = refused-answer s d r left (c .if1 .taken);
-      decisions-given = kept-table s d r left (c .if1 .taken) _ _;
-      rounds-given = kept-table s d r left (c .if1 .taken) _ _;
-      demand-3 = refused-keeps s d r left (c .if1 .taken);
+      answered = refused-answer fcwfa s d r left (c .if1 .taken);
+      decisions-given = kept-table fcwfa s d r left (c .if1 .taken) _ _;
+      rounds-given = kept-table fcwfa s d r left (c .if1 .taken) _ _;
+      demand-3 = refused-keeps fcwfa s d r left (c .if1 .taken);
     }
 
 fill-requires : tie.Need-fill-requires
@@ -31,9 +32,9 @@ fill-requires c κs =
     let s = scheduleOf (a .n) (a .t) (now (a .votes)) (now (a .crashes)) (now (a .reaches)) in
     let d = now (a .decisions) in
     let r = now (a .rounds) in
-    let left = c .before .before .before .before .run .ensures in
-    let long = tables-long s d r left (c .before .before .before .if1 .left) in
-    let n-high = small s d r left (c .before .before .before .if1 .left) in
+    let left = c .before .before .before .before .play-rounds .ensures in
+    let long = tables-long fcwfa s d r left (c .before .before .before .if1 .left) in
+    let n-high = small fcwfa s d r left (c .before .before .before .if1 .left) in
     (omega arith, omega arith)
 
 counts-of-requires : tie.Need-counts-of-requires
@@ -51,17 +52,17 @@ returns-2 c =
     let s = scheduleOf (a .n) (a .t) (now (a .votes)) (now (a .crashes)) (now (a .reaches)) in
     let d = now (a .decisions) in
     let r = now (a .rounds) in
-    let left = c .before .before .before .before .before .before .before .before .before .before .before .run .ensures in
+    let left = c .before .before .before .before .before .before .before .before .before .before .before .play-rounds .ensures in
     let accepting = c .before .before .before .before .before .before .before .before .before .before .if1 .left in
     let filled = c .before .before .before .before .before .before .fill .ensures in
     let found = c .counts-of .ensures in
     record {
-      answered = completed-answer s d r left accepting (filled .0) (filled .1) found;
-      decisions-given = given-decisions s d r left accepting (filled .0) (filled .1) found;
-      rounds-given = given-rounds s d r left accepting (filled .0) (filled .1) found;
-      demand-3 = completed-keeps s d r left accepting (filled .0) (filled .1) found;
+      answered = completed-answer fcwfa s d r left accepting (filled .0) (filled .1) found;
+      decisions-given = given-decisions fcwfa s d r left accepting (filled .0) (filled .1) found;
+      rounds-given = given-rounds fcwfa s d r left accepting (filled .0) (filled .1) found;
+      demand-3 = completed-keeps s _ (passed fcwfa s d r left accepting) (given-is fcwfa s d r left accepting (filled .0) (filled .1) found);
     }
 
 pub simulate-spec : {M : Type 1} → statement M
 simulate-spec =
-    tie.close (tie.spec run-requires returns fill-requires counts-of-requires same-length same-length-2 returns-2)
+    tie.close (tie.spec play-rounds-requires returns fill-requires counts-of-requires same-length same-length-2 returns-2)

@@ -7,7 +7,6 @@ ghost use lib.ListN.{length, getD};
 ghost use Rattle.laws.specs.Below.{tabulate};
 ghost use Rattle.sets.specs.Largest.{largest};
 ghost use Rattle.schedule.specs.Schedule.{crashesIn};
-ghost use Rattle.run.specs.Protocol.{fcwfa};
 ghost use Rattle.run.specs.Report.{firstOf, lastOf, roundOf, decisionOf};
 use crate::Counts;
 use member::Member;

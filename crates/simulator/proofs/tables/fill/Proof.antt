@@ -6,10 +6,9 @@ use borrow.Author.Needs.{needs}
 use lib.ListN.{length}
 use Rattle.laws.specs.Filled.{Filled}
 use Rattle.laws.proofs.Filled.{each-none, each-more, each-all, filled-list}
-use Rattle.run.specs.Protocol.{fcwfa}
 use Rattle.run.specs.Report.{roundOf, decisionOf}
-use Rattle.simulator.proofs.answers.fill.Statement.{statement}
-use Rattle.simulator.proofs.answers.fill.Tie as tie
+use Rattle.simulator.proofs.tables.fill.Statement.{statement}
+use Rattle.simulator.proofs.tables.fill.Tie as tie
 
 abbrev Inv-loop : tie.InvT-loop
 Inv-loop decisions₀ rounds₀ members i₀ decisions rounds i =

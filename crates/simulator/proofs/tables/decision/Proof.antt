@@ -3,8 +3,8 @@ use mathlib.Core.Path.{sym}
 use lib.Dec.{eqb}
 use borrow.Author.Tests.{eq-eqb, ne-eqb}
 use Rattle.laws.proofs.Test.{cond-true, cond-false}
-use Rattle.simulator.proofs.answers.decision.Statement.{statement}
-use Rattle.simulator.proofs.answers.decision.Tie as tie
+use Rattle.simulator.proofs.tables.decision.Statement.{statement}
+use Rattle.simulator.proofs.tables.decision.Tie as tie
 
 returns : tie.Need-returns
 returns c = let m = c .before .before .args .m in sym (cond-true (eqb (m .decided) 0) 2 (m .estimate) (eq-eqb _ _ (c .if1 .taken)))

@@ -1,7 +1,7 @@
 -- `counts_of` meets its contract, count by count. Assumes nothing.
 use borrow.Author.Needs.{needs}
-use Rattle.simulator.proofs.answers.counts_of.Statement.{statement}
-use Rattle.simulator.proofs.answers.counts_of.Tie as tie
+use Rattle.simulator.proofs.tables.counts_of.Statement.{statement}
+use Rattle.simulator.proofs.tables.counts_of.Tie as tie
 
 crash-count-requires : tie.Need-crash-count-requires
 crash-count-requires c κs = search needs
