@@ -20,29 +20,31 @@ use Rattle.sets.specs.Largest.{largest}
 use Rattle.sets.specs.Sets.{names}
 use Rattle.sets.specs.Tables.{padded}
 use Rattle.member.specs.Saying.{nothing}
-use Rattle.delivery.specs.Rows.{Entered}
+use Rattle.delivery.specs.Delivery.{Entered}
 use Rattle.run.specs.Run.{completesRound, isHeard, delivered, heardFrom}
+
+-- a process that crashes in the round does not complete it
+pub crashing-now : (r c : ℕ) → c ≢ 0 → c ≡ r → completesRound r c ≡ false
+unfolding completesRound
+crashing-now r c some same = or-neither (eqb c 0) (ltb r c) (ne-eqb c 0 some) (le-ltb r c (omega arith))
+
+-- and one that never crashes does
+pub always-completing : (r c : ℕ) → c ≡ 0 → completesRound r c ≡ true
+unfolding completesRound
+always-completing r c never = or-left (eqb c 0) (ltb r c) (eq-eqb c 0 never)
 
 -- What i hears from a process with this crash round, reach and code.
 module _ (r i c reach code : ℕ) where
-  not-completing : c ≢ 0 → c ≡ r → completesRound r c ≡ false
-  unfolding completesRound
-  not-completing other same = or-neither (eqb c 0) (ltb r c) (ne-eqb c 0 other) (le-ltb r c (omega arith))
-
   -- one that crashes in the round: the code, if its reach names i
   pub heard-crashing : c ≢ 0 → c ≡ r → cond (names reach i) code nothing ≡ delivered r i c reach code
   unfolding delivered isHeard
   heard-crashing other same =
       ap (λ (b : Bool). cond b code nothing)
-      (and-goes-on (eqb c r) (names reach i) (eq-eqb c r same) ∙ or-goes-on (completesRound r c) (eqb c r && names reach i) (not-completing other same))
-
-  always-completing : c ≡ 0 → completesRound r c ≡ true
-  unfolding completesRound
-  always-completing never = or-left (eqb c 0) (ltb r c) (eq-eqb c 0 never)
+      (and-goes-on (eqb c r) (names reach i) (eq-eqb c r same) ∙ or-goes-on (completesRound r c) (eqb c r && names reach i) (crashing-now r c other same))
 
   completing-is-heard : (c ≡ 0) ⊎ (c ≢ r) → completesRound r c ≡ isHeard r i c reach
   unfolding isHeard
-  completing-is-heard (inl never) = always-completing never ∙ sym (or-left (completesRound r c) (eqb c r && names reach i) (always-completing never))
+  completing-is-heard (inl never) = always-completing r c never ∙ sym (or-left (completesRound r c) (eqb c r && names reach i) (always-completing r c never))
   completing-is-heard (inr other) =
       elim (true-or-false (completesRound r c)) [
         | inl e ↦ e ∙ sym (or-left (completesRound r c) (eqb c r && names reach i) e)
@@ -139,8 +141,8 @@ module _ (crashes reaches codes : List ℕ) (r : ℕ) where
           | inr e ↦ others-same j i k (eqb-false k j e)
         ]))
 
-    pub rows-more : {now : List (List ℕ)} → Entered n r j (getD codes j 0) (getD crashes j 0) (getD reaches j 0) grid now → RowsSoFar n (j + 1) before now
-    rows-more {now} e =
+    pub rows-more : {messages : ℕ} {now : List (List ℕ)} → Entered n r j (getD codes j 0) (getD crashes j 0) (getD reaches j 0) grid messages now → RowsSoFar n (j + 1) before now
+    rows-more {now = now} e =
         elim (true-or-false (eqb (getD crashes j 0) 0)) [
           | inl z ↦ unchanged (inl (eqb-true _ _ z))
           | inr z ↦
@@ -160,6 +162,6 @@ module _ (crashes reaches codes : List ℕ) (r : ℕ) where
       rw (← same) (over-again first (over-so h (λ i b. padded-same n _ _ (λ k a. looked-at j i k (omega arith)))))
 
 -- of a crash round and a reach that were read from the tables
-pub entered-at : {n r j code c reach crash named : ℕ} {before now : List (List ℕ)} → Entered n r j code c reach before now → c ≡ crash → reach ≡ named
-    → Entered n r j code crash named before now
+pub entered-at : {n r j code c reach crash named messages : ℕ} {before now : List (List ℕ)} → Entered n r j code c reach before messages now → c ≡ crash → reach ≡ named
+    → Entered n r j code crash named before messages now
 entered-at e same-crash same-reach = rw (← same-crash, ← same-reach) e

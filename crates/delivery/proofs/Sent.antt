@@ -1,38 +1,159 @@
--- What one sender adds fits into the width of a set of processes: it is 0, n, or the ones of its reach; and what all senders add. Assumes nothing.
-use mathlib.Core.Path.{_≡_, ap, ap₂, _∙_}
+-- The messages of a round: n for each process that completes it and says something, and besides what the crashing senders add; a sender adds as many
+-- as a set has bits at most. Assumes nothing.
+use mathlib.Core.Path.{_≡_, refl, sym, ap, ap₂, _∙_}
 use mathlib.Core.List.{List}
-use mathlib.Core.Logic.{inl, inr}
-use mathlib.Core.Bool.{Bool, cond}
-use Prim.Native.Nat.{ℕ, _^_, _≤_, _<_, zero-le}
-use native.Mathlib.Nat.{le-trans, le-of-eq}
+use mathlib.Core.Logic.{_≢_, _⊎_, inl, inr}
+use mathlib.Core.Bool.{Bool, true, false, cond, not}
+use Prim.Native.Nat.{ℕ, _+_, _*_, _^_, _≤_, _<_, zero-le}
+use native.Mathlib.Nat.{le-trans, le-of-eq, mul-le-mul, mul-one, mul-zero}
 use native.Mathlib.Omega.{arith}
 use lib.Count.{ones, ones-le}
 use lib.Dec.{eqb}
-use lib.ListN.{getD}
-use Rattle.laws.specs.Below.{sum}
-use Rattle.laws.proofs.Below.{sum-end}
+use lib.ListN.{getD, replicate, length-replicate, getD-replicate, List·getD-eq-default}
+use borrow.Author.Tests.{eqb-true, eqb-false, ne-eqb}
+use Rattle.laws.specs.Below.{sum, bit, count}
+use Rattle.laws.proofs.Below.{sum-start, sum-step, count-high}
 use Rattle.laws.proofs.Test.{true-or-false, cond-true, cond-false}
-use Rattle.sets.specs.Largest.{fitting}
+use Rattle.laws.proofs.Counting.{split, count-same}
+use Rattle.laws.proofs.Sums.{sum-same, sum-high, sum-parts, count-ends}
+use Rattle.laws.proofs.Overwritten.{over-at, over-past}
+use Rattle.sets.specs.Largest.{largest}
+use Rattle.sets.specs.Tables.{padded}
+use Rattle.member.specs.Saying.{nothing}
 use Rattle.run.specs.Run.{completesRound}
 use Rattle.run.specs.Report.{sentBy, messagesOf}
+use Rattle.run.proofs.Rounds.{sends-nothing, sends-to-all, sends-to-reach, sends-no-more}
+use Rattle.delivery.specs.Delivery.{Entered}
+use Rattle.delivery.proofs.Heard.{crashing-now, always-completing, fromCompleting}
 
 both-high : (b : Bool) (x y high : ℕ) → x ≤ high → y ≤ high → cond b x y ≤ high
 both-high b x y high p q =
     elim (true-or-false b) [ inl e ↦ let c = cond-true b x y e in omega arith | inr e ↦ let c = cond-false b x y e in omega arith ]
 
-pub sent-few : (width n r c reach code added : ℕ) → added ≡ sentBy n r c reach code → n ≤ width → reach < 2 ^ width → added ≤ width
+sent-few : (width n r c reach code : ℕ) → n ≤ width → reach < 2 ^ width → sentBy n r c reach code ≤ width
 unfolding sentBy
-sent-few width n r c reach code added e small low =
-    le-trans (le-of-eq e)
-    (both-high (eqb code 0) 0 _ width zero-le (both-high (completesRound r c) n _ width small (both-high (eqb c r) (ones reach) 0 width (ones-le width reach low) zero-le)))
+sent-few width n r c reach code small low =
+    both-high (eqb code 0) 0 _ width zero-le (both-high (completesRound r c) n _ width small (both-high (eqb c r) (ones reach) 0 width (ones-le width reach low) zero-le))
 
--- of a crash round and a reach that were read from the tables
-pub added-at : (n r code : ℕ) {added c reach crash named : ℕ} → added ≡ sentBy n r c reach code → c ≡ crash → reach ≡ named → added ≡ sentBy n r crash named code
-added-at n r code e same-crash same-reach = e ∙ ap₂ (λ (x y : ℕ). sentBy n r x y code) same-crash same-reach
+-- whether a sender that completes the round says something
+abbrev speaks : ℕ → ℕ → ℕ → Bool
+speaks r c code = not (eqb (cond (completesRound r c) code nothing) nothing)
 
--- all of them, once the loop over them is at its end
-pub all-added : (crashes reaches codes : List ℕ) (r n : ℕ) {size j messages : ℕ} → size ≡ fitting n
-    → messages ≡ sum j (λ k. sentBy size r (getD crashes k 0) (getD reaches k 0) (getD codes k 0)) → j ≤ size → size ≤ j
-    → messages ≡ messagesOf crashes reaches r (λ k. getD codes k 0) (fitting n)
-all-added crashes reaches codes r n e so-far low high =
-    sum-end _ _ _ _ so-far low high ∙ ap (messagesOf crashes reaches r (λ k. getD codes k 0)) e
+-- What a sender adds: n if it completes the round and says something, and besides what it adds where n is 0.
+module _ (n r c reach code : ℕ) where
+  none-for-silence : cond (completesRound r c) code nothing ≡ nothing → n * bit (speaks r c code) ≡ 0
+  none-for-silence e = ap (λ (x : ℕ). n * bit (not (eqb x nothing))) e ∙ mul-zero n
+
+  n-for-speaking : cond (completesRound r c) code nothing ≡ code → code ≢ nothing → n * bit (speaks r c code) ≡ n
+  n-for-speaking e some = ap (λ (x : ℕ). n * bit (not (eqb x nothing))) e ∙ ap (λ (b : Bool). n * bit (not b)) (ne-eqb code nothing some) ∙ mul-one n
+
+  -- of a sender that does not complete the round nothing depends on n
+  crashing-same : completesRound r c ≡ false → code ≢ nothing → sentBy n r c reach code ≡ sentBy 0 r c reach code
+  crashing-same not-so some =
+      elim (true-or-false (eqb c r)) [
+        | inl e ↦ sends-to-reach n r c reach code some not-so (eqb-true c r e) ∙ sym (sends-to-reach 0 r c reach code some not-so (eqb-true c r e))
+        | inr e ↦ sends-no-more n r c reach code some not-so (eqb-false c r e) ∙ sym (sends-no-more 0 r c reach code some not-so (eqb-false c r e))
+      ]
+
+  pub sent-parts : sentBy n r c reach code ≡ n * bit (speaks r c code) + sentBy 0 r c reach code
+  sent-parts =
+      elim (true-or-false (eqb code nothing)) [
+        | inl z ↦
+            let mute = eqb-true code nothing z in
+            let a = sends-nothing n r c reach code mute in
+            let b = sends-nothing 0 r c reach code mute in
+            let d = none-for-silence (ap (λ (x : ℕ). cond (completesRound r c) x nothing) mute ∙ cond-same (completesRound r c)) in
+            omega arith
+        | inr z ↦
+            let some = eqb-false code nothing z in
+            elim (true-or-false (completesRound r c)) [
+              | inl e ↦
+                  let a = sends-to-all n r c reach code some e in
+                  let b = sends-to-all 0 r c reach code some e in
+                  let d = n-for-speaking (cond-true (completesRound r c) code nothing e) some in
+                  omega arith
+              | inr e ↦
+                  let a = crashing-same e some in
+                  let d = none-for-silence (cond-false (completesRound r c) code nothing e) in
+                  omega arith
+            ]
+      ]
+    where
+      cond-same : (b : Bool) → cond b nothing nothing ≡ nothing
+      cond-same true = refl
+      cond-same false = refl
+
+-- A sender that does not crash in the round adds nothing where n is 0, and one that does the ones of its reach.
+module _ (r c reach code : ℕ) where
+  completing-adds : c ≡ 0 → 0 ≡ sentBy 0 r c reach code
+  completing-adds never =
+      elim (true-or-false (eqb code nothing)) [
+        | inl z ↦ sym (sends-nothing 0 r c reach code (eqb-true code nothing z))
+        | inr z ↦ sym (sends-to-all 0 r c reach code (eqb-false code nothing z) (always-completing r c never))
+      ]
+
+  other-adds : c ≢ r → 0 ≡ sentBy 0 r c reach code
+  other-adds other =
+      elim (true-or-false (eqb code nothing)) [
+        | inl z ↦ sym (sends-nothing 0 r c reach code (eqb-true code nothing z))
+        | inr z ↦
+            elim (true-or-false (completesRound r c)) [
+              | inl e ↦ sym (sends-to-all 0 r c reach code (eqb-false code nothing z) e)
+              | inr e ↦ sym (sends-no-more 0 r c reach code (eqb-false code nothing z) e other)
+            ]
+      ]
+
+  pub nothing-added : (c ≡ 0) ⊎ (c ≢ r) → 0 ≡ sentBy 0 r c reach code
+  nothing-added (inl never) = completing-adds never
+  nothing-added (inr other) = other-adds other
+
+  pub silence-added : code ≡ nothing → 0 ≡ sentBy 0 r c reach code
+  silence-added e = sym (sends-nothing 0 r c reach code e)
+
+  pub reach-added : code ≢ nothing → c ≢ 0 → c ≡ r → ones reach ≡ sentBy 0 r c reach code
+  reach-added some crashes now = sym (sends-to-reach 0 r c reach code some (crashing-now r c crashes now) now)
+
+zero-at : (width j : ℕ) → _≡_ {A = ℕ} (getD (replicate width 0) j 0) 0
+zero-at width j =
+    let long = length-replicate {A = ℕ} width 0 in
+    elim (split width j) [ inl a ↦ List·getD-eq-default (replicate width 0) 0 (omega arith) | inr a ↦ getD-replicate width j 0 0 a ]
+
+-- how many speak, of a row of n codes with zeros after them
+speakers-are : (n : ℕ) (f : ℕ → ℕ) {row : List ℕ} → n ≤ largest → row ≡ padded n f
+    → count largest (λ j. not (eqb (getD row j 0) nothing)) ≡ count n (λ j. not (eqb (f j) nothing))
+speakers-are n f {row} small e =
+    count-ends largest n (λ j. not (eqb (getD row j 0) nothing)) small
+    (λ j past. ap (λ (x : ℕ). not (eqb x nothing)) (over-past {f = f} {xs = replicate largest 0} (record { is = e }) j 0 past ∙ zero-at largest j))
+    ∙ count-same n _ _ (λ j l. ap (λ (x : ℕ). not (eqb x nothing)) (over-at {f = f} {xs = replicate largest 0} (record { is = e }) j 0 l))
+
+pub completing-few : (size : ℕ) {speaking : ℕ} (p : ℕ → Bool) → size ≤ largest → speaking ≡ count largest p → size * speaking ≤ largest * largest
+completing-few size p small e = mul-le-mul small (le-trans (le-of-eq e) (count-high largest p))
+
+pub crashing-low : {n r j code c reach messages : ℕ} {before after : List (List ℕ)} → Entered n r j code c reach before messages after → reach < 2 ^ largest → messages ≤ largest
+crashing-low {r = r} {code = code} {c} {reach} e low = le-trans (le-of-eq (e .sent)) (sent-few largest 0 r c reach code zero-le low)
+
+-- All of them: n for each that speaks, and what the crashing senders add.
+module _ (crashes reaches codes : List ℕ) (r : ℕ) where
+  abbrev pub crashingAdds : ℕ → ℕ
+  crashingAdds j = sentBy 0 r (getD crashes j 0) (getD reaches j 0) (getD codes j 0)
+
+  pub all-sent : (size n : ℕ) {speaking messages j : ℕ} {row : List ℕ} → n ≡ size → n ≤ largest → row ≡ padded n (fromCompleting crashes reaches codes r)
+      → speaking ≡ count largest (λ k. not (eqb (getD row k 0) nothing)) → messages ≡ n * speaking + sum j crashingAdds → j ≡ n
+      → messages ≡ messagesOf crashes reaches r (λ k. getD codes k 0) size
+  all-sent size n same small row speak so-far end =
+      so-far
+      ∙ ap₂ (λ (x k : ℕ). n * x + sum k crashingAdds) (speak ∙ speakers-are n (fromCompleting crashes reaches codes r) small row) end
+      ∙ sym (sum-parts n n (λ k. speaks r (getD crashes k 0) (getD codes k 0)) crashingAdds)
+      ∙ sym (sum-same n _ _ (λ k l. sent-parts n r (getD crashes k 0) (getD reaches k 0) (getD codes k 0)))
+      ∙ ap (messagesOf crashes reaches r (λ k. getD codes k 0)) same
+
+  pub sent-low : (n : ℕ) → n ≤ largest → ((k : ℕ) → getD reaches k 0 < 2 ^ largest) → messagesOf crashes reaches r (λ k. getD codes k 0) n ≤ largest * largest
+  sent-low n small low =
+      let high = sum-high n largest _ (λ j l. sent-few largest n r (getD crashes j 0) (getD reaches j 0) (getD codes j 0) small (low j)) in
+      omega arith
+
+  pub so-far-start : (first : ℕ) → first ≡ first + sum 0 crashingAdds
+  so-far-start first = let e = sum-start crashingAdds in omega arith
+
+  pub so-far-more : (first j : ℕ) {messages sent : ℕ} → messages ≡ first + sum j crashingAdds → sent ≡ crashingAdds j → messages + sent ≡ first + sum (j + 1) crashingAdds
+  so-far-more first j {sent = sent} e added = let next = sum-step j crashingAdds (sum j crashingAdds) sent refl added in omega arith

@@ -1,19 +1,21 @@
 // Who hears whom in a round, and what is sent in it (document 01, "Who hears whom"), from the codes that the
 // processes say: nothing here knows a protocol.
 //
-// `completes` and `sent_by` are about one process; `messages_sent` counts the messages of a round, and
-// `fill_rows` forms its rows. Each takes anything and answers what the definitions of the crate `run` give;
-// none has a `requires`. A cluster of more processes than a set has bits for is cut there (`fitting`), and
-// a table reads as 0 past its end.
+// `completes` tells whether a process completes a round, and `deliver` forms the rows of a round and counts
+// its messages. Each takes anything and answers what the definitions of the crate `run` give; none has a
+// `requires`. A cluster of more processes than a set has bits for is cut there (`fitting`), and a table reads
+// as 0 past its end.
 mod rows;
 
-pub use rows::fill_rows;
 ghost use mathlib.Core.Path.{_≡_};
-ghost use Prim.Native.Nat.{_*_, _≤_};
 ghost use lib.ListN.{getD};
-ghost use Rattle.sets.specs.Largest.{largest, fitting as Largest·fitting};
+ghost use Rattle.sets.specs.Largest.{fitting as Largest·fitting};
 ghost use Rattle.run.specs.Run.{completesRound};
-ghost use Rattle.run.specs.Report.{sentBy, messagesOf};
+ghost use Rattle.delivery.specs.Delivery.{Delivers};
+use crate::rows::completing_row;
+use crate::rows::enter_crashing;
+use crate::rows::speakers;
+use crate::rows::store_row;
 use sets::Set;
 use sets::WIDTH;
 use sets::byte_at;
@@ -27,40 +29,29 @@ pub fn completes(round: u8, crash: u8) -> bool
     crash == 0 || round < crash
 }
 
-// What a sender adds to the messages of the round: n if it completes the round, its own copy included,
-// and the ones of its reach if it crashes in it, each only if it says something.
-pub fn sent_by(n: usize, round: u8, code: u8, crash: u8, reach: Set) -> usize
-    ensures added { λ r. ⌜ r ≡ sentBy n round crash reach code ⌝ }
-{
-    let ones = sets::ones(reach);
-    if code == 0 {
-        return 0;
-    }
-    if completes(round, crash) {
-        return n;
-    }
-    if crash == round {
-        return ones;
-    }
-    0
-}
-
-// The messages of the round, of the codes that are said in it.
-pub fn messages_sent(
+// Stores the rows of the round, of the codes that are said in it, each at the place of its process and with
+// zeros after its codes, and answers the messages of the round. The rows of the grid from place n on stay as
+// they are. A sender that completes the round adds n, its own copy included, and one that crashes in it the
+// ones of its reach, each only if it says something.
+pub fn deliver(
     n: usize,
     round: u8,
     codes: [u8; WIDTH],
     crashes: &[u8],
     reaches: &[Set],
+    grid: &mut [[u8; WIDTH]; WIDTH],
 ) -> usize
-    ensures counted { λ r. ⌜ r ≡ messagesOf (now (crashes .entry)) (now (reaches .entry)) round (λ j. getD codes j 0) (Largest·fitting n) ⌝ }
-    ensures few { λ r. ⌜ r ≤ largest * largest ⌝ }
+    ensures delivered { λ r. ⌜ Delivers (Largest·fitting n) round (λ j. getD codes j 0) (now (crashes .entry)) (now (reaches .entry)) (now (grid .entry)) r (now (grid .exit)) ⌝ }
 {
     let size = fitting(n);
-    let mut messages: usize = 0;
+    let row = completing_row(size, round, codes, crashes);
+    store_row(size, row, &mut grid[..]);
+    let mut messages = size * speakers(row);
     let mut j: usize = 0;
     while j < size {
-        messages += sent_by(size, round, codes[j], byte_at(crashes, j), set_at(reaches, j));
+        let crash = byte_at(crashes, j);
+        let reach = set_at(reaches, j);
+        messages += enter_crashing(size, round, j, codes[j], crash, reach, &mut grid[..]);
         j += 1;
     }
     messages

@@ -3,22 +3,24 @@
 // Who completes the round is heard by all. So every row starts as the codes of those, and then each sender
 // that crashes in the round is entered in the rows of the processes that its reach names.
 ghost use mathlib.Core.Path.{_≡_};
-ghost use mathlib.Core.Bool.{cond};
+ghost use mathlib.Core.Bool.{cond, not};
+ghost use lib.Dec.{eqb};
 ghost use Prim.Native.Nat.{ℕ, _≤_, _<_};
 ghost use lib.ListN.{length, getD};
+ghost use Rattle.laws.specs.Below.{count};
 ghost use Rattle.laws.specs.Filled.{Overwritten};
-ghost use Rattle.sets.specs.Largest.{largest, fitting as Largest·fitting};
+ghost use Rattle.sets.specs.Largest.{largest};
 ghost use Rattle.sets.specs.Tables.{padded};
 ghost use Rattle.member.specs.Saying.{nothing};
-ghost use Rattle.run.specs.Run.{completesRound, heardFrom};
-ghost use Rattle.delivery.specs.Rows.{Entered};
+ghost use Rattle.run.specs.Run.{completesRound};
+ghost use Rattle.delivery.specs.Delivery.{Entered};
 use crate::completes;
+use laws::bit;
 use sets::Set;
 use sets::WIDTH;
 use sets::byte_at;
-use sets::fitting;
 use sets::is_named;
-use sets::set_at;
+use sets::ones;
 use sets::zero_bytes;
 
 // What is heard of a code: it, or nothing.
@@ -29,7 +31,7 @@ fn heard_or_nothing(heard: bool, code: u8) -> u8
 }
 
 // The codes of the processes that complete the round, and nothing for each other.
-fn completing_row(n: usize, round: u8, codes: [u8; WIDTH], crashes: &[u8]) -> [u8; WIDTH]
+pub fn completing_row(n: usize, round: u8, codes: [u8; WIDTH], crashes: &[u8]) -> [u8; WIDTH]
     requires size { ⌜ n ≤ largest ⌝ }
     ensures row { λ r. ⌜ r ≡ padded n (λ j. cond (completesRound round (getD (now (crashes .entry)) j 0)) (getD codes j 0) nothing) ⌝ }
 {
@@ -43,7 +45,7 @@ fn completing_row(n: usize, round: u8, codes: [u8; WIDTH], crashes: &[u8]) -> [u
 }
 
 // Stores the row at each of the first n places.
-fn store_row(n: usize, row: [u8; WIDTH], grid: &mut [[u8; WIDTH]])
+pub fn store_row(n: usize, row: [u8; WIDTH], grid: &mut [[u8; WIDTH]])
     requires size { ⌜ (n ≤ largest) × (length (now grid) ≡ largest) ⌝ }
     ensures stored { λ _. ⌜ Overwritten n (λ (_ : ℕ). row) (now (grid .entry)) (now (grid .exit)) ⌝ }
 {
@@ -54,9 +56,22 @@ fn store_row(n: usize, row: [u8; WIDTH], grid: &mut [[u8; WIDTH]])
     }
 }
 
+// How many codes of a row say something.
+pub fn speakers(row: [u8; WIDTH]) -> usize
+    ensures counted { λ r. ⌜ r ≡ count largest (λ j. not (eqb (getD row j 0) nothing)) ⌝ }
+{
+    let mut speaking: u8 = 0;
+    let mut j: usize = 0;
+    while j < WIDTH {
+        speaking += bit(row[j] != 0);
+        j += 1;
+    }
+    speaking as usize
+}
+
 // Enters a sender that crashes in the round at its place j of the first n rows: its code for the processes
-// that its reach names, and nothing for the others.
-fn enter_crashing(
+// that its reach names, and nothing for the others. Answers how many messages it sends so.
+pub fn enter_crashing(
     n: usize,
     round: u8,
     j: usize,
@@ -64,43 +79,20 @@ fn enter_crashing(
     crash: u8,
     reach: Set,
     grid: &mut [[u8; WIDTH]],
-)
+) -> usize
     requires size { ⌜ (n ≤ largest) × (j < largest) × (length (now grid) ≡ largest) ⌝ }
-    ensures entered { λ _. ⌜ Entered n round j code crash reach (now (grid .entry)) (now (grid .exit)) ⌝ }
+    ensures entered { λ r. ⌜ Entered n round j code crash reach (now (grid .entry)) r (now (grid .exit)) ⌝ }
 {
     if crash == 0 {
-        return;
+        return 0;
     }
     if crash != round {
-        return;
+        return 0;
     }
     let mut i: usize = 0;
     while i < n {
         grid[i][j] = heard_or_nothing(is_named(reach, i), code);
         i += 1;
     }
-}
-
-// Stores the rows of the round, each at the place of its process, with zeros after its codes. The rows of
-// the grid from place n on stay as they are.
-pub fn fill_rows(
-    n: usize,
-    round: u8,
-    codes: [u8; WIDTH],
-    crashes: &[u8],
-    reaches: &[Set],
-    grid: &mut [[u8; WIDTH]; WIDTH],
-)
-    ensures heard { λ _. ⌜ Overwritten (Largest·fitting n) (λ (i : ℕ). padded (Largest·fitting n) (heardFrom (now (crashes .entry)) (now (reaches .entry)) round (λ j. getD codes j 0) i)) (now (grid .entry)) (now (grid .exit)) ⌝ }
-{
-    let size = fitting(n);
-    let row = completing_row(size, round, codes, crashes);
-    store_row(size, row, &mut grid[..]);
-    let mut j: usize = 0;
-    while j < size {
-        let crash = byte_at(crashes, j);
-        let reach = set_at(reaches, j);
-        enter_crashing(size, round, j, codes[j], crash, reach, &mut grid[..]);
-        j += 1;
-    }
+    if code == 0 { 0 } else { ones(reach) }
 }

@@ -24,9 +24,10 @@ use Rattle.run.specs.Run.{delivered, rowHeard, stateAt, codeSaid, codeHeard, ro
 use Rattle.run.specs.Report.{sentBy, messagesOf, sentAfter}
 use Rattle.run.specs.Facts.{SilentFrom, OwnAnswers}
 use Rattle.run.proofs.Rounds.{states-long, step-is, who-moves}
-use Rattle.execution.specs.Rounds.{noMembers, Opens, HearsCodes}
+use Rattle.delivery.specs.Delivery.{Delivers}
+use Rattle.execution.specs.Rounds.{noMembers, Opens, HearsRows}
 use Rattle.execution.specs.Ran.{membersAfter, Plays}
-use Rattle.execution.proofs.OneRound.{code-at}
+use Rattle.execution.proofs.OneRound.{code-at, hears-codes}
 
 module _ (P : Protocol) (s : Schedule) where
   -- members that stand as after r rounds, with nobody after them
@@ -70,28 +71,34 @@ module _ (P : Protocol) (s : Schedule) where
       unfolding nextState
       next-same i l = ap₂ (stateAfter P (suc r) (crashOf s i)) (state-at i l) (row-same i) ∙ sym (step-is P s r i l)
 
-      next-states : {grid gridNow : List (List ℕ)} {next : List Member}
-          → HearsCodes P (s .n) (suc r) members (λ j. getD codes j 0) (s .crashes) (s .reaches) grid next gridNow → Stand (suc r) next
-      next-states f = over-so (over-again h (f .states)) next-same
+      next-states : {grid gridNow : List (List ℕ)} {messages : ℕ} {next : List Member}
+          → Delivers (s .n) (suc r) (λ j. getD codes j 0) (s .crashes) (s .reaches) grid messages gridNow → HearsRows P (s .n) (suc r) members (s .crashes) gridNow next
+          → Stand (suc r) next
+      next-states sent f = over-so (over-again h (hears-codes P (s .n) (suc r) (λ j. getD codes j 0) (s .crashes) (s .reaches) sent f)) next-same
 
       sent-same : messagesOf (s .crashes) (s .reaches) (suc r) (λ j. getD codes j 0) (s .n) ≡ sentAfter P s r
       sent-same = sum-same (s .n) _ _ (λ j l. ap (sentBy (s .n) (suc r) (crashOf s j) (reachOf s j)) (said-at j l))
 
-      pub sent-in : {k : ℕ} → k ≡ messagesOf (s .crashes) (s .reaches) (r + 1) (λ j. getD codes j 0) (fitting (s .n)) → k ≡ sentAfter P s r
-      sent-in e = (rw (add-one r, fits) at e) ∙ sent-same
+      -- what was delivered, with the round's number as the code has it
+      module _ {grid gridNow : List (List ℕ)} {k : ℕ}
+          (sent : Delivers (fitting (s .n)) (r + 1) (λ j. getD codes j 0) (s .crashes) (s .reaches) grid k gridNow) where
+        delivers : Delivers (s .n) (suc r) (λ j. getD codes j 0) (s .crashes) (s .reaches) grid k gridNow
+        delivers = rw (add-one r, fits) at sent
 
-      pub goes-on : {last sent-so-far k : ℕ} {grid gridNow : List (List ℕ)} {next : List Member} → Playing last members sent-so-far r → r < last
-          → k ≡ messagesOf (s .crashes) (s .reaches) (r + 1) (λ j. getD codes j 0) (fitting (s .n)) → k ≤ largest * largest
-          → HearsCodes P (fitting (s .n)) (r + 1) members (λ j. getD codes j 0) (s .crashes) (s .reaches) grid next gridNow
-          → Playing last next (sent-so-far + k) (r + 1)
-      goes-on playing l e high f =
-          let so-far = playing .few in
-          record {
-            inside = omega arith;
-            states = rw (add-one r) (next-states (rw (add-one r, fits) at f));
-            counted = sum-step r (sentAfter P s) _ _ (playing .counted) (sent-in e);
-            few = omega arith;
-          }
+        pub sent-in : k ≡ sentAfter P s r
+        sent-in = delivers .counted ∙ sent-same
+
+        pub goes-on : {last sent-so-far : ℕ} {next : List Member} → Playing last members sent-so-far r → r < last
+            → HearsRows P (fitting (s .n)) (r + 1) members (s .crashes) gridNow next → Playing last next (sent-so-far + k) (r + 1)
+        goes-on playing l f =
+            let so-far = playing .few in
+            let high = sent .few in
+            record {
+              inside = omega arith;
+              states = rw (add-one r) (next-states delivers (rw (add-one r, fits) at f));
+              counted = sum-step r (sentAfter P s) _ _ (playing .counted) sent-in;
+              few = omega arith;
+            }
 
 -- The end of the rounds is that of the run, where no call is refused in it.
 module _ (P : Protocol) (s : Schedule) (small : s .n ≤ largest) (own : OwnAnswers P largest s) {last : ℕ} (rounds : last ≤ s .t + 1) where

@@ -1,3 +1,4 @@
+pub mod Stopped
 pub mod OneRound
 pub mod AllRounds
 pub mod Whole

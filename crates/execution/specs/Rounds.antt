@@ -1,14 +1,16 @@
 -- One round of all members, which stand side by side in an array as long as the largest cluster.
 use Prim.Native.Nat.{ℕ, _+_}
+use mathlib.Core.Path.{_≡_}
 use mathlib.Core.List.{List, []}
-use lib.ListN.{getD, replicate}
+use lib.ListN.{getD, take, replicate}
 use Rattle.laws.specs.Filled.{Overwritten}
 use Rattle.sets.specs.Largest.{largest}
 use Rattle.sets.specs.Tables.{padded}
 use Rattle.member.specs.declared.Member.{Member}
 use Rattle.schedule.specs.Schedule.{Schedule, scheduleOf}
 use Rattle.run.specs.Protocol.{Protocol, nobody}
-use Rattle.run.specs.Run.{heardFrom, rowHeard, stateAt, codeSaid, stateAfter, nextState}
+use Rattle.run.specs.Run.{heardFrom, stateAt, codeSaid, stateAfter, nextState}
+use Rattle.run.specs.Report.{messagesOf}
 
 -- an array in which no member stands
 abbrev pub noMembers : List Member
@@ -18,23 +20,21 @@ noMembers = replicate largest nobody
 abbrev pub crashSchedule : ℕ → List ℕ → List ℕ → Schedule
 crashSchedule n crashes reaches = scheduleOf n 0 [] crashes reaches
 
--- the rows of a round of n processes stand in the grid, with zeros after the codes of each; the other rows of the grid are as they were
-abbrev pub RowsStand : ℕ → ℕ → (ℕ → ℕ) → List ℕ → List ℕ → List (List ℕ) → List (List ℕ) → Type 0
-RowsStand n round code crashes reaches grid gridNow = Overwritten n (λ i. padded n (heardFrom crashes reaches round code i)) grid gridNow
-
+-- Of any protocol, a cluster of n processes.
 module _ (P : Protocol) (n : ℕ) where
   -- "every member is opened with n, t, its own number and its vote": the first n places hold them, and the others nobody
   abbrev pub Opens : ℕ → List ℕ → List Member → Type 0
   Opens t votes members = Overwritten n (λ i. P .opening n t (i + 1) (getD votes i 0)) noMembers members
 
-  -- A round of n processes in which the process at place j says `code j`: the states after it, those past place n as they were, and its rows.
-  pub record HearsCodes (round : ℕ) (members : List Member) (code : ℕ → ℕ) (crashes reaches : List ℕ) (grid : List (List ℕ)) (next : List Member) (gridNow : List (List ℕ))
-      : Type 0 where
-    pub states : Overwritten n (λ i. stateAfter P round (getD crashes i 0) (stateAt members i) (rowHeard crashes reaches round code n i)) members next
-    pub rows : RowsStand n round code crashes reaches grid gridNow
+  -- a round whose rows stand in a grid: each member that completes it hears its row, and the places from n on are as they were
+  abbrev pub HearsRows : ℕ → List Member → List ℕ → List (List ℕ) → List Member → Type 0
+  HearsRows round members crashes grid next =
+      Overwritten n (λ i. stateAfter P round (getD crashes i 0) (stateAt members i) (take n (getD grid i []))) members next
 
-  -- A round of n processes, of the codes that their members say.
-  pub record PlaysRound (round : ℕ) (members : List Member) (crashes reaches : List ℕ) (grid : List (List ℕ)) (next : List Member) (gridNow : List (List ℕ))
+  -- A round of the codes that the members say: the states after it, its messages, and its rows in the grid, each with zeros after its codes; the
+  -- other rows of the grid are as they were.
+  pub record PlaysRound (round : ℕ) (members : List Member) (crashes reaches : List ℕ) (grid : List (List ℕ)) (next : List Member) (messages : ℕ) (gridNow : List (List ℕ))
       : Type 0 where
     pub states : Overwritten n (nextState P (crashSchedule n crashes reaches) round members) members next
-    pub rows : RowsStand n round (codeSaid P members) crashes reaches grid gridNow
+    pub counted : messages ≡ messagesOf crashes reaches round (codeSaid P members) n
+    pub rows : Overwritten n (λ i. padded n (heardFrom crashes reaches round (codeSaid P members) i)) grid gridNow

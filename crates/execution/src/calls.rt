@@ -41,10 +41,14 @@ pub fn is_stopped(m: Member) -> bool
     member::is_stopped(m)
 }
 
-// The code that a member says, nothing where that is refused.
+// The code that a member says, nothing where that is refused. A stopped member says nothing, in range or
+// not, so it need not be asked.
 pub fn said(m: Member) -> u8
     ensures said { λ r. ⌜ r ≡ calls .says m ⌝ }
 {
+    if is_stopped(m) {
+        return 0;
+    }
     let answer = member::say(m);
     match answer {
         Said::Code(code) => code,

@@ -7,10 +7,11 @@ ghost use Rattle.schedule.specs.Schedule.{scheduleOf};
 ghost use Rattle.schedule.specs.Questions.{question};
 ghost use Rattle.run.specs.Protocol.{fcwfa};
 ghost use Rattle.execution.specs.Ran.{Plays};
+use crate::round::Played;
 use crate::round::codes_said;
-use crate::round::hear_codes;
+use crate::round::hear_rows;
 use crate::round::open_all;
-use member::Member;
+use delivery::deliver;
 use sets::Set;
 use sets::WIDTH;
 use sets::zero_bytes;
@@ -19,12 +20,6 @@ use sets::zero_bytes;
 fn empty_grid() -> [[u8; WIDTH]; WIDTH] {
     let row = zero_bytes();
     [row; WIDTH]
-}
-
-// The states after some rounds, and the messages sent in them.
-pub struct Played {
-    pub members: [Member; WIDTH],
-    pub messages: usize,
 }
 
 // Rounds 1 to `last`, up to the first in which nothing is sent: after it nothing happens any more.
@@ -46,22 +41,14 @@ pub fn play(
     let mut round: u8 = 0;
     while (round as usize) < last {
         let codes = codes_said(n, members);
-        let sent = delivery::messages_sent(n, round + 1, codes, crashes, reaches);
+        let sent = deliver(n, round + 1, codes, crashes, reaches, &mut grid);
         if sent == 0 {
             return Played {
                 members: members,
                 messages: messages,
             };
         }
-        let next = hear_codes(
-            n,
-            round + 1,
-            members,
-            codes,
-            crashes,
-            reaches,
-            &mut grid,
-        );
+        let next = hear_rows(n, round + 1, members, crashes, &grid);
         members = next;
         messages += sent;
         round += 1;

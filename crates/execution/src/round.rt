@@ -2,20 +2,18 @@
 // anything: a cluster of more processes than a set has bits for is cut there (`fitting`), a table reads as 0
 // past its end, and a refused call of a member keeps its state.
 ghost use mathlib.Core.Path.{_≡_};
-ghost use mathlib.Core.List.{[]};
-ghost use Prim.Native.Nat.{_≤_};
-ghost use lib.ListN.{length, getD, take};
-ghost use Rattle.laws.specs.Filled.{Overwritten};
-ghost use Rattle.sets.specs.Largest.{largest, fitting as Largest·fitting};
+ghost use Rattle.sets.specs.Largest.{fitting as Largest·fitting};
 ghost use Rattle.sets.specs.Tables.{padded};
-ghost use Rattle.run.specs.Run.{stateAt, codeSaid, stateAfter};
+ghost use Rattle.run.specs.Run.{codeSaid, stateAfter};
 ghost use Rattle.execution.specs.Calls.{calls};
-ghost use Rattle.execution.specs.Rounds.{noMembers, Opens, HearsCodes, PlaysRound};
+ghost use Rattle.execution.specs.Rounds.{noMembers, Opens, HearsRows, PlaysRound};
 use crate::calls::heard;
 use crate::calls::is_stopped;
 use crate::calls::no_member;
 use crate::calls::opened;
 use crate::calls::said;
+use delivery::completes;
+use delivery::deliver;
 use member::Member;
 use sets::Set;
 use sets::WIDTH;
@@ -64,7 +62,7 @@ pub fn codes_said(n: usize, members: [Member; WIDTH]) -> [u8; WIDTH]
 fn next_state(round: u8, crash: u8, m: Member, row: &[u8]) -> Member
     ensures next { λ r. ⌜ r ≡ stateAfter calls round crash m (now (row .entry)) ⌝ }
 {
-    if !delivery::completes(round, crash) {
+    if !completes(round, crash) {
         return m;
     }
     if is_stopped(m) {
@@ -74,47 +72,35 @@ fn next_state(round: u8, crash: u8, m: Member, row: &[u8]) -> Member
 }
 
 // The states after a round whose rows are the first n codes of the rows of the grid.
-fn hear_rows(
+pub fn hear_rows(
     n: usize,
     round: u8,
     members: [Member; WIDTH],
     crashes: &[u8],
-    grid: &[[u8; WIDTH]],
+    grid: &[[u8; WIDTH]; WIDTH],
 ) -> [Member; WIDTH]
-    requires size { ⌜ (n ≤ largest) × (length (now grid) ≡ largest) ⌝ }
-    ensures next { λ r. ⌜ Overwritten n (λ i. stateAfter calls round (getD (now (crashes .entry)) i 0) (stateAt members i) (take n (getD (now (grid .entry)) i []))) members r ⌝ }
+    ensures heard { λ r. ⌜ HearsRows calls (Largest·fitting n) round members (now (crashes .entry)) (now (grid .entry)) r ⌝ }
 {
+    let size = fitting(n);
     let mut next = members;
     let mut i: usize = 0;
-    while i < n {
+    while i < size {
         let m = next[i];
         let row = &grid[i][..];
-        let heard = next_state(round, byte_at(crashes, i), m, &row[..n]);
-        next[i] = heard;
+        let state = next_state(round, byte_at(crashes, i), m, &row[..size]);
+        next[i] = state;
         i += 1;
     }
     next
 }
 
-// The states after a round in which these codes are said. The grid gets the rows of the round; it is lent,
-// so that a run forms it once.
-pub fn hear_codes(
-    n: usize,
-    round: u8,
-    members: [Member; WIDTH],
-    codes: [u8; WIDTH],
-    crashes: &[u8],
-    reaches: &[Set],
-    grid: &mut [[u8; WIDTH]; WIDTH],
-) -> [Member; WIDTH]
-    ensures heard { λ r. ⌜ HearsCodes calls (Largest·fitting n) round members (λ j. getD codes j 0) (now (crashes .entry)) (now (reaches .entry)) (now (grid .entry)) r (now (grid .exit)) ⌝ }
-{
-    delivery::fill_rows(n, round, codes, crashes, reaches, grid);
-    let size = fitting(n);
-    hear_rows(size, round, members, crashes, &grid[..])
+// The states after a round, or after some rounds, and the messages sent in them.
+pub struct Played {
+    pub members: [Member; WIDTH],
+    pub messages: usize,
 }
 
-// One round of all members.
+// One round of all members. The grid gets the rows of the round; it is lent, so that a run forms it once.
 pub fn play_round(
     n: usize,
     round: u8,
@@ -122,9 +108,14 @@ pub fn play_round(
     crashes: &[u8],
     reaches: &[Set],
     grid: &mut [[u8; WIDTH]; WIDTH],
-) -> [Member; WIDTH]
-    ensures played { λ r. ⌜ PlaysRound calls (Largest·fitting n) round members (now (crashes .entry)) (now (reaches .entry)) (now (grid .entry)) r (now (grid .exit)) ⌝ }
+) -> Played
+    ensures played { λ r. ⌜ PlaysRound calls (Largest·fitting n) round members (now (crashes .entry)) (now (reaches .entry)) (now (grid .entry)) (r .members) (r .messages) (now (grid .exit)) ⌝ }
 {
     let codes = codes_said(n, members);
-    hear_codes(n, round, members, codes, crashes, reaches, grid)
+    let messages = deliver(n, round, codes, crashes, reaches, grid);
+    let next = hear_rows(n, round, members, crashes, grid);
+    Played {
+        members: next,
+        messages: messages,
+    }
 }

@@ -36,7 +36,7 @@ pub record NumbersKeepDemand3 (s : Schedule) (number : ℕ) (counts decisions ro
 -- stands in them after it.
 pub record SimulatesNumbers (s : Schedule) (decisions rounds counts : List ℕ) (number : ℕ) (decisionsNow roundsNow countsNow : List ℕ) : Type 0 where
   pub number-is : number ≡ simulateQuestion largest s decisions rounds
-  pub decisions-given : decisionsNow ≡ decisionsAfter largest s decisions rounds
-  pub rounds-given : roundsNow ≡ roundsAfter largest s decisions rounds
+  pub decisions-given : decisionsNow ≡ decisionsAfter fcwfa largest s decisions rounds
+  pub rounds-given : roundsNow ≡ roundsAfter fcwfa largest s decisions rounds
   pub counts-given : countsNow ≡ placeAfter (simulateQuestion largest s decisions rounds) (countsNumbers (countsOf (report fcwfa s))) counts
   pub demand-3 : NumbersKeepDemand3 s number countsNow decisionsNow roundsNow

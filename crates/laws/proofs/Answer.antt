@@ -107,6 +107,10 @@ module _ {A : Type 0} where
   unfolding placeAfter
   place-kept q given lent e = rw (ne-eqb q 0 e)
 
+  -- where the same is given as stood there, it stands there
+  pub place-same : (q : ℕ) (x : A) → placeAfter q x x ≡ x
+  place-same q x = elim (true-or-false (eqb q 0)) [ inl e ↦ place-given q x x (eqb-true q 0 e) | inr e ↦ place-kept q x x (eqb-false q 0 e) ]
+
 -- A call whose questions come to q, and what it leaves in a lent place for its value: the number and the place by its answer.
 module _ {A B C : Type 0} (q : ℕ) (value : A) (back : B) (entered : A → C) (lent : C) where
   pub answer-given : {x : A} → accepted x ≡ answer q value back → (0 ≡ q) × (entered x ≡ placeAfter q (entered value) lent)

@@ -1,10 +1,11 @@
 -- Bounds of a sum below n from bounds of its terms. Assumes nothing.
-use mathlib.Core.Path.{_≡_, refl, ap, ap₂}
+use mathlib.Core.Path.{_≡_, refl, sym, ap, ap₂}
+use mathlib.Core.Bool.{Bool, false}
 use mathlib.Core.Logic.{inl, inr}
 use Prim.Native.Nat.{ℕ, zero, suc, _+_, _*_, _≤_, _<_, min, zero-le}
-use native.Mathlib.Nat.{not-suc-le-zero}
+use native.Mathlib.Nat.{not-suc-le-zero, mul-zero, mul-add}
 use native.Mathlib.Omega.{arith}
-use Rattle.laws.specs.Below.{sum}
+use Rattle.laws.specs.Below.{sum, bit, count}
 use Rattle.laws.proofs.Counting.{split, below-or-top}
 
 pub sum-zero : (n : ℕ) (f : ℕ → ℕ) → ((i : ℕ) → i < n → f i ≡ 0) → sum n f ≡ 0
@@ -60,3 +61,17 @@ sum-until (suc n) b x f h z =
           let e2 : min b n ≡ n = omega arith in
           rw e (let a2 = rw e2 at a in let q = h n (omega arith) in omega arith)
     ]
+
+-- a term that is k wherever a test holds, and another term besides
+pub sum-parts : (k n : ℕ) (p : ℕ → Bool) (g : ℕ → ℕ) → sum n (λ i. k * bit (p i) + g i) ≡ k * count n p + sum n g
+unfolding sum count
+sum-parts k zero p g = sym (ap (λ (x : ℕ). x + 0) (mul-zero k))
+sum-parts k (suc n) p g =
+    let a = sum-parts k n p g in
+    let b = mul-add k (count n p) (bit (p n)) in
+    omega arith
+
+-- a count has no more past the places where the test holds
+pub count-ends : (n k : ℕ) (p : ℕ → Bool) → k ≤ n → ((i : ℕ) → k ≤ i → p i ≡ false) → count n p ≡ count k p
+unfolding count
+count-ends n k p l past = sum-ends n k (λ i. bit (p i)) l (λ i b. ap bit (past i b))

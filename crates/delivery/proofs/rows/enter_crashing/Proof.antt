@@ -3,7 +3,7 @@
 use Prim.Native.Nat.{ℕ, _-_, _≤_}
 use mathlib.Core.Bool.{Bool, cond}
 use mathlib.Core.List.{List, []}
-use mathlib.Core.Logic.{_⊎_, ⊎-elim}
+use mathlib.Core.Logic.{inl, inr, ⊎-elim}
 use mathlib.Core.Path.{refl, _∙_, ap, ap₂}
 use native.Mathlib.Omega.{arith}
 use borrow.Author.Needs.{needs}
@@ -12,6 +12,7 @@ use Rattle.laws.specs.Filled.{Overwritten}
 use Rattle.laws.proofs.Overwritten.{over-start, over-more, over-past, over-long, over-all}
 use Rattle.sets.specs.Sets.{names}
 use Rattle.member.specs.Saying.{nothing}
+use Rattle.delivery.proofs.Sent.{nothing-added, silence-added, reach-added}
 use Rattle.delivery.proofs.rows.enter_crashing.Statement.{statement}
 use Rattle.delivery.proofs.rows.enter_crashing.Tie as tie
 
@@ -22,10 +23,10 @@ abbrev μ-loop : tie.MeasureT-loop
 μ-loop n round j code crash reach grid₀ i₀ grid i = n - i
 
 returns : tie.Need-returns Inv-loop μ-loop
-returns c = record { crashing = λ some same. absurd (some (c .if1 .taken)); other = λ _. refl }
+returns c = record { crashing = λ some same. absurd (some (c .if1 .taken)); other = λ _. refl; sent = nothing-added _ _ _ _ (inl (c .if1 .taken)) }
 
 returns-2 : tie.Need-returns-2 Inv-loop μ-loop
-returns-2 c = record { crashing = λ some same. absurd (c .if2 .taken same); other = λ _. refl }
+returns-2 c = record { crashing = λ some same. absurd (c .if2 .taken same); other = λ _. refl; sent = nothing-added _ _ _ _ (inr (c .if2 .taken)) }
 
 loop-holds : tie.Need-loop-holds Inv-loop μ-loop
 loop-holds c = (omega arith, over-start refl)
@@ -61,13 +62,27 @@ loop-again c =
       (c .heard-or-nothing .ensures ∙ ap (λ (b : Bool). cond b (a .code) nothing) (c .before .is-named .ensures))),
     )
 
+ones-requires : tie.Need-ones-requires Inv-loop μ-loop
+ones-requires c κs = search needs
+
 same-length : tie.Need-same-length Inv-loop μ-loop
-same-length c = over-long (c .before .loop .inv .1) (omega arith)
+same-length c = over-long (c .before .before .loop .inv .1) (omega arith)
 
 returns-3 : tie.Need-returns-3 Inv-loop μ-loop
 returns-3 c = record {
-      crashing = λ some same. over-all (c .before .loop .inv .1) (omega arith);
-      other = λ e. absurd (⊎-elim (c .before .before .before .if1 .left) (λ past. past (c .before .before .if2 .left)) e);
+      crashing = λ some same. over-all (c .before .before .loop .inv .1) (omega arith);
+      other = λ e. absurd (⊎-elim (c .before .before .before .before .if1 .left) (λ past. past (c .before .before .before .if2 .left)) e);
+      sent = silence-added _ _ _ _ (c .if3 .taken);
+    }
+
+same-length-2 : tie.Need-same-length-2 Inv-loop μ-loop
+same-length-2 c = over-long (c .before .before .before .loop .inv .1) (omega arith)
+
+returns-4 : tie.Need-returns-4 Inv-loop μ-loop
+returns-4 c = record {
+      crashing = λ some same. over-all (c .before .before .before .loop .inv .1) (omega arith);
+      other = λ e. absurd (⊎-elim (c .before .before .before .before .before .if1 .left) (λ past. past (c .before .before .before .before .if2 .left)) e);
+      sent = c .ones .ensures ∙ reach-added _ _ _ _ (c .before .if3 .left) (c .before .before .before .before .before .if1 .left) (c .before .before .before .before .if2 .left);
     }
 
 pub enter-crashing-spec : {M : Type 1} → statement M
@@ -87,5 +102,8 @@ enter-crashing-spec =
     add-i
     loop-less
     loop-again
+    ones-requires
     same-length
-    returns-3)
+    returns-3
+    same-length-2
+    returns-4)

@@ -51,8 +51,8 @@ cast-loop c =
 codes-said-requires : tie.Need-codes-said-requires Inv-loop μ-loop
 codes-said-requires c κs = search needs
 
-add-messages-sent : tie.Need-add-messages-sent Inv-loop μ-loop
-add-messages-sent c =
+add-deliver : tie.Need-add-deliver Inv-loop μ-loop
+add-deliver c =
     let a = c .before .before .before .before .before .before .before .before .args in
     let s = scheduleOf (a .n) (a .t) (now (a .votes)) (now (a .crashes)) (now (a .reaches)) in
     let ok = question-accepted s largest true (c .before .before .before .before .before .before .before .before .pre .0) in
@@ -62,57 +62,56 @@ add-messages-sent c =
     let inside = c .before .before .loop .inv .inside in
     omega arith
 
-messages-sent-requires : tie.Need-messages-sent-requires Inv-loop μ-loop
-messages-sent-requires c κs = search needs
+deliver-requires : tie.Need-deliver-requires Inv-loop μ-loop
+deliver-requires c κs = search needs
 
 returns : tie.Need-returns Inv-loop μ-loop
 returns c =
-    let a = c .before .before .before .before .before .before .before .before .before .before .args in
+    let a = c .before .before .before .before .before .before .before .before .before .before .before .args in
     let s = scheduleOf (a .n) (a .t) (now (a .votes)) (now (a .crashes)) (now (a .reaches)) in
-    let ok = question-accepted s largest true (c .before .before .before .before .before .before .before .before .before .before .pre .0) in
-    let promises = accepted-run s largest true (c .before .before .before .before .before .before .before .before .before .before .pre .0) in
-    let at = c .before .before .before .before .loop in
-    let said = c .before .before .codes-said in
-    let sent = sent-in calls s (ok .n-high) (at .round) (said .result) (at .inv .states) (said .ensures) (c .before .messages-sent .ensures .0) in
-    ends-silent fcwfa s (ok .n-high) (promises .own-answers) (c .before .before .before .before .before .before .before .before .before .before .pre .1) (at .inv)
-        (promises .silence) (omega arith) (sym sent ∙ c .if1 .taken)
+    let ok = question-accepted s largest true (c .before .before .before .before .before .before .before .before .before .before .before .pre .0) in
+    let promises = accepted-run s largest true (c .before .before .before .before .before .before .before .before .before .before .before .pre .0) in
+    let at = c .before .before .before .before .before .loop in
+    let said = c .before .before .before .codes-said in
+    let sent = sent-in calls s (ok .n-high) (at .round) (said .result) (at .inv .states) (said .ensures) (c .before .deliver .ensures) in
+    ends-silent fcwfa s (ok .n-high) (promises .own-answers) (c .before .before .before .before .before .before .before .before .before .before .before .pre .1) (at .inv) (promises .silence) (omega arith) (sym sent ∙ c .if1 .taken)
 
-add-hear-codes : tie.Need-add-hear-codes Inv-loop μ-loop
-add-hear-codes c =
-    let a = c .before .before .before .before .before .before .before .before .before .before .args in
+add-hear-rows : tie.Need-add-hear-rows Inv-loop μ-loop
+add-hear-rows c =
+    let a = c .before .before .before .before .before .before .before .before .before .before .before .args in
     let s = scheduleOf (a .n) (a .t) (now (a .votes)) (now (a .crashes)) (now (a .reaches)) in
-    let ok = question-accepted s largest true (c .before .before .before .before .before .before .before .before .before .before .pre .0) in
+    let ok = question-accepted s largest true (c .before .before .before .before .before .before .before .before .before .before .before .pre .0) in
     let n-high = ok .n-high in
     let t-high = ok .rules .t-high in
-    let rounds = c .before .before .before .before .before .before .before .before .before .before .pre .1 in
-    let inside = c .before .before .before .before .loop .inv .inside in
+    let rounds = c .before .before .before .before .before .before .before .before .before .before .before .pre .1 in
+    let inside = c .before .before .before .before .before .loop .inv .inside in
     omega arith
 
-hear-codes-requires : tie.Need-hear-codes-requires Inv-loop μ-loop
-hear-codes-requires c κs = search needs
+hear-rows-requires : tie.Need-hear-rows-requires Inv-loop μ-loop
+hear-rows-requires c κs = search needs
 
 add-messages : tie.Need-add-messages Inv-loop μ-loop
 add-messages c =
-    let a = c .before .before .before .before .before .before .before .before .before .before .before .before .args in
+    let a = c .before .before .before .before .before .before .before .before .before .before .before .before .before .args in
     let s = scheduleOf (a .n) (a .t) (now (a .votes)) (now (a .crashes)) (now (a .reaches)) in
-    let ok = question-accepted s largest true (c .before .before .before .before .before .before .before .before .before .before .before .before .pre .0) in
+    let ok = question-accepted s largest true (c .before .before .before .before .before .before .before .before .before .before .before .before .before .pre .0) in
     let n-high = ok .n-high in
     let t-high = ok .rules .t-high in
-    let rounds = c .before .before .before .before .before .before .before .before .before .before .before .before .pre .1 in
-    let inside = c .before .before .before .before .before .before .loop .inv .inside in
-    let few = c .before .before .before .before .before .before .loop .inv .few in
-    let high = c .before .before .before .messages-sent .ensures .1 in
+    let rounds = c .before .before .before .before .before .before .before .before .before .before .before .before .before .pre .1 in
+    let inside = c .before .before .before .before .before .before .before .loop .inv .inside in
+    let few = c .before .before .before .before .before .before .before .loop .inv .few in
+    let high = c .before .before .before .deliver .ensures .few in
     omega arith
 
 add-round : tie.Need-add-round Inv-loop μ-loop
 add-round c =
-    let a = c .before .before .before .before .before .before .before .before .before .before .before .before .args in
+    let a = c .before .before .before .before .before .before .before .before .before .before .before .before .before .args in
     let s = scheduleOf (a .n) (a .t) (now (a .votes)) (now (a .crashes)) (now (a .reaches)) in
-    let ok = question-accepted s largest true (c .before .before .before .before .before .before .before .before .before .before .before .before .pre .0) in
+    let ok = question-accepted s largest true (c .before .before .before .before .before .before .before .before .before .before .before .before .before .pre .0) in
     let n-high = ok .n-high in
     let t-high = ok .rules .t-high in
-    let rounds = c .before .before .before .before .before .before .before .before .before .before .before .before .pre .1 in
-    let inside = c .before .before .before .before .before .before .loop .inv .inside in
+    let rounds = c .before .before .before .before .before .before .before .before .before .before .before .before .before .pre .1 in
+    let inside = c .before .before .before .before .before .before .before .loop .inv .inside in
     omega arith
 
 loop-less : tie.Need-loop-less Inv-loop μ-loop
@@ -120,13 +119,13 @@ loop-less c = omega arith
 
 loop-again : tie.Need-loop-again Inv-loop μ-loop
 loop-again c =
-    let a = c .before .before .before .before .before .before .before .before .before .before .before .before .args in
+    let a = c .before .before .before .before .before .before .before .before .before .before .before .before .before .args in
     let s = scheduleOf (a .n) (a .t) (now (a .votes)) (now (a .crashes)) (now (a .reaches)) in
-    let ok = question-accepted s largest true (c .before .before .before .before .before .before .before .before .before .before .before .before .pre .0) in
-    let at = c .before .before .before .before .before .before .loop in
-    let said = c .before .before .before .before .codes-said in
-    let sent = c .before .before .before .messages-sent .ensures in
-    goes-on calls s (ok .n-high) (at .round) (said .result) (at .inv .states) (said .ensures) (at .inv) (omega arith) (sent .0) (sent .1) (c .hear-codes .ensures)
+    let ok = question-accepted s largest true (c .before .before .before .before .before .before .before .before .before .before .before .before .before .pre .0) in
+    let at = c .before .before .before .before .before .before .before .loop in
+    let said = c .before .before .before .before .before .codes-said in
+    goes-on calls s (ok .n-high) (at .round) (said .result) (at .inv .states) (said .ensures) (c .before .before .before .deliver .ensures) (at .inv) (omega arith)
+        (c .hear-rows .ensures)
 
 returns-2 : tie.Need-returns-2 Inv-loop μ-loop
 returns-2 c =
@@ -147,11 +146,11 @@ play-spec =
     loop-holds
     cast-loop
     codes-said-requires
-    add-messages-sent
-    messages-sent-requires
+    add-deliver
+    deliver-requires
     returns
-    add-hear-codes
-    hear-codes-requires
+    add-hear-rows
+    hear-rows-requires
     add-messages
     add-round
     loop-less

@@ -10,14 +10,19 @@ use Rattle.execution.proofs.round.play_round.Tie as tie
 codes-said-requires : tie.Need-codes-said-requires
 codes-said-requires c κs = search needs
 
-hear-codes-requires : tie.Need-hear-codes-requires
-hear-codes-requires c κs = search needs
+deliver-requires : tie.Need-deliver-requires
+deliver-requires c κs = search needs
+
+hear-rows-requires : tie.Need-hear-rows-requires
+hear-rows-requires c κs = search needs
 
 returns : tie.Need-returns
 returns c =
-    let a = c .before .before .before .before .before .args in
-    plays-round calls (fitting (a .n)) (a .round) (c .before .before .codes-said .result) (now (a .crashes)) (now (a .reaches)) (a .members) (c .before .before .codes-said .ensures)
-        (c .hear-codes .ensures)
+    let a = c .before .before .before .before .before .before .before .args in
+    let said = c .before .before .before .before .codes-said in
+    plays-round calls (fitting (a .n)) (a .round) (said .result) (now (a .crashes)) (now (a .reaches)) (a .members) (said .ensures) (c .before .before .deliver .ensures)
+        (c .hear-rows .ensures)
 
 pub play-round-spec : {M : Type 1} → statement M
-play-round-spec = tie.close (tie.spec codes-said-requires hear-codes-requires returns)
+play-round-spec =
+    tie.close (tie.spec codes-said-requires deliver-requires hear-rows-requires returns)

@@ -1,0 +1,129 @@
+-- `deliver` meets its contract: every row starts as the codes of those that complete the round, and each turn looks at one sender (Heard.antt), whose
+-- messages are counted (Sent.antt). Assumes nothing.
+use Prim.Native.Nat.{_+_, _-_, _*_, _≤_}
+use mathlib.Core.Path.{_≡_, refl, ap, _∙_}
+use native.Mathlib.Nat.{le-trans, le-of-eq}
+use native.Mathlib.Omega.{arith}
+use borrow.Author.Needs.{needs}
+use denote.Ref.{now}
+use Rattle.laws.specs.Below.{sum}
+use Rattle.laws.proofs.Below.{sum-start, sum-step}
+use Rattle.sets.specs.Largest.{largest, fitting}
+use Rattle.delivery.proofs.Heard.{RowsSoFar, rows-start, entered-at, rows-more, rows-end}
+use Rattle.delivery.proofs.Sent.{completing-few, crashing-low, crashingAdds, so-far-start, so-far-more, all-sent, sent-low}
+use Rattle.delivery.proofs.deliver.Statement.{statement}
+use Rattle.delivery.proofs.deliver.Tie as tie
+
+abbrev Inv-loop : tie.InvT-loop
+Inv-loop n round crashes reaches grid₀ codes size messages₀ j₀ grid messages j = 
+    (size ≡ fitting n)
+    × (j ≤ size)
+    × RowsSoFar crashes reaches codes round size j grid₀ grid
+    × (messages ≡ messages₀ + sum j (crashingAdds crashes reaches codes round))
+    × (messages ≤ messages₀ + largest * j)
+
+abbrev μ-loop : tie.MeasureT-loop
+μ-loop n round crashes reaches grid₀ codes size messages₀ j₀ grid messages j = size - j
+
+fitting-requires : tie.Need-fitting-requires Inv-loop μ-loop
+fitting-requires c κs = search needs
+
+completing-row-requires : tie.Need-completing-row-requires Inv-loop μ-loop
+completing-row-requires c κs = omega arith
+
+store-row-requires : tie.Need-store-row-requires Inv-loop μ-loop
+store-row-requires c κs = (omega arith, c .store-row-arg .given .0 .1)
+
+speakers-requires : tie.Need-speakers-requires Inv-loop μ-loop
+speakers-requires c κs = search needs
+
+mul-messages : tie.Need-mul-messages Inv-loop μ-loop
+mul-messages c = let first = completing-few (c .before .before .before .before .fitting .result) _ (omega arith) (c .speakers .ensures) in omega arith
+
+loop-holds : tie.Need-loop-holds Inv-loop μ-loop
+loop-holds c = 
+    let a = c .before .before .before .before .before .before .before .args in (
+      c .before .before .before .before .fitting .ensures,
+      omega arith,
+      rows-start (now (a .crashes)) (now (a .reaches)) (a .t3) (a .round) (c .before .before .before .completing-row .ensures) (c .before .store-row .ensures),
+      so-far-start (now (a .crashes)) (now (a .reaches)) (a .t3) (a .round) _,
+      omega arith,
+    )
+
+byte-at-requires : tie.Need-byte-at-requires Inv-loop μ-loop
+byte-at-requires c κs = search needs
+
+set-at-requires : tie.Need-set-at-requires Inv-loop μ-loop
+set-at-requires c κs = search needs
+
+array-read-enter-crashing : tie.Need-array-read-enter-crashing Inv-loop μ-loop
+array-read-enter-crashing c = omega arith
+
+enter-crashing-requires : tie.Need-enter-crashing-requires Inv-loop μ-loop
+enter-crashing-requires c κs = (omega arith, omega arith, c .enter-crashing-arg .given .0 .1)
+
+add-messages : tie.Need-add-messages Inv-loop μ-loop
+add-messages c = 
+    let first = completing-few (c .before .before .before .before .before .before .before .before .before .before .fitting .result) _ (omega arith) (c .before .before .before .before .before .before .speakers .ensures) in
+    let few = crashing-low (c .enter-crashing .ensures) (c .before .before .set-at .ok) in
+    let so-far = c .before .before .before .before .before .loop .inv .4 in
+    omega arith
+
+add-j : tie.Need-add-j Inv-loop μ-loop
+add-j c = omega arith
+
+loop-less : tie.Need-loop-less Inv-loop μ-loop
+loop-less c = omega arith
+
+loop-again : tie.Need-loop-again Inv-loop μ-loop
+loop-again c = 
+    let a = c .before .before .before .before .before .before .before .before .before .before .before .before .before .args in
+    let at = c .before .before .before .before .before .loop in
+    let inv = at .inv in
+    let entered = entered-at (c .enter-crashing .ensures) (c .before .before .before .byte-at .ensures) (c .before .before .set-at .ensures) in
+    let few = crashing-low (c .enter-crashing .ensures) (c .before .before .set-at .ok) in (
+      inv .0,
+      omega arith,
+      rows-more (now (a .crashes)) (now (a .reaches)) (a .t3) (a .round) (omega arith) (inv .2) entered,
+      so-far-more (now (a .crashes)) (now (a .reaches)) (a .t3) (a .round) _ (at .j) (inv .3) (entered .sent),
+      omega arith,
+    )
+
+returns : tie.Need-returns Inv-loop μ-loop
+returns c = 
+    let a = c .before .before .before .before .before .before .before .before .before .args in
+    let inv = c .before .loop .inv in
+    let small : fitting (a .n) ≤ largest = omega arith in
+    let sent =
+        all-sent (now (a .crashes)) (now (a .reaches)) (a .t3) (a .round) (fitting (a .n)) _ (inv .0) (omega arith) (c .before .before .before .before .before .completing-row .ensures)
+            (c .before .before .speakers .ensures) (inv .3) (omega arith)
+    in
+    record {
+      rows =
+          rows-end (now (a .crashes)) (now (a .reaches)) (a .t3) (a .round) (fitting (a .n)) (inv .0) (c .loop-test .left) (c .before .before .before .store-row .ensures)
+              (inv .2);
+      counted = sent;
+      few = le-trans (le-of-eq sent) (sent-low (now (a .crashes)) (now (a .reaches)) (a .t3) (a .round) (fitting (a .n)) small (λ k. c .before .before .before .before .before .before .before .shared-slice-known2 .given k .fits));
+    }
+
+pub deliver-spec : {M : Type 1} → statement M
+deliver-spec =
+    tie.close
+    (tie.spec
+    Inv-loop
+    μ-loop
+    fitting-requires
+    completing-row-requires
+    store-row-requires
+    speakers-requires
+    mul-messages
+    loop-holds
+    byte-at-requires
+    set-at-requires
+    array-read-enter-crashing
+    enter-crashing-requires
+    add-messages
+    add-j
+    loop-less
+    loop-again
+    returns)
