@@ -36,12 +36,12 @@ pub fn completes(round: u8, crash: u8) -> bool
 pub fn deliver(
     n: usize,
     round: u8,
-    codes: [u8; WIDTH],
+    codes: &[u8; WIDTH],
     crashes: &[u8],
     reaches: &[Set],
     grid: &mut [[u8; WIDTH]; WIDTH],
 ) -> usize
-    ensures delivered { λ r. ⌜ Delivers (Largest·fitting n) round (λ j. getD codes j 0) (now (crashes .entry)) (now (reaches .entry)) (now (grid .entry)) r (now (grid .exit)) ⌝ }
+    ensures delivered { λ r. ⌜ Delivers (Largest·fitting n) round (λ j. getD (now (codes .entry)) j 0) (now (crashes .entry)) (now (reaches .entry)) (now (grid .entry)) r (now (grid .exit)) ⌝ }
 {
     let size = fitting(n);
     let row = completing_row(size, round, codes, crashes);

@@ -31,9 +31,9 @@ fn heard_or_nothing(heard: bool, code: u8) -> u8
 }
 
 // The codes of the processes that complete the round, and nothing for each other.
-pub fn completing_row(n: usize, round: u8, codes: [u8; WIDTH], crashes: &[u8]) -> [u8; WIDTH]
+pub fn completing_row(n: usize, round: u8, codes: &[u8; WIDTH], crashes: &[u8]) -> [u8; WIDTH]
     requires size { ⌜ n ≤ largest ⌝ }
-    ensures row { λ r. ⌜ r ≡ padded n (λ j. cond (completesRound round (getD (now (crashes .entry)) j 0)) (getD codes j 0) nothing) ⌝ }
+    ensures row { λ r. ⌜ r ≡ padded n (λ j. cond (completesRound round (getD (now (crashes .entry)) j 0)) (getD (now (codes .entry)) j 0) nothing) ⌝ }
 {
     let mut row = zero_bytes();
     let mut j: usize = 0;

@@ -41,7 +41,7 @@ pub fn play(
     let mut round: u8 = 0;
     while (round as usize) < last {
         let codes = codes_said(n, members);
-        let sent = deliver(n, round + 1, codes, crashes, reaches, &mut grid);
+        let sent = deliver(n, round + 1, &codes, crashes, reaches, &mut grid);
         if sent == 0 {
             return Played {
                 members: members,

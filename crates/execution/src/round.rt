@@ -112,7 +112,7 @@ pub fn play_round(
     ensures played { λ r. ⌜ PlaysRound calls (Largest·fitting n) round members (now (crashes .entry)) (now (reaches .entry)) (now (grid .entry)) (r .members) (r .messages) (now (grid .exit)) ⌝ }
 {
     let codes = codes_said(n, members);
-    let messages = deliver(n, round, codes, crashes, reaches, grid);
+    let messages = deliver(n, round, &codes, crashes, reaches, grid);
     let next = hear_rows(n, round, members, crashes, grid);
     Played {
         members: next,

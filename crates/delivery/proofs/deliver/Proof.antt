@@ -15,7 +15,7 @@ use Rattle.delivery.proofs.deliver.Statement.{statement}
 use Rattle.delivery.proofs.deliver.Tie as tie
 
 abbrev Inv-loop : tie.InvT-loop
-Inv-loop n round crashes reaches grid₀ codes size messages₀ j₀ grid messages j = 
+Inv-loop n round codes crashes reaches grid₀ size messages₀ j₀ grid messages j = 
     (size ≡ fitting n)
     × (j ≤ size)
     × RowsSoFar crashes reaches codes round size j grid₀ grid
@@ -23,7 +23,7 @@ Inv-loop n round crashes reaches grid₀ codes size messages₀ j₀ grid messag
     × (messages ≤ messages₀ + largest * j)
 
 abbrev μ-loop : tie.MeasureT-loop
-μ-loop n round crashes reaches grid₀ codes size messages₀ j₀ grid messages j = size - j
+μ-loop n round codes crashes reaches grid₀ size messages₀ j₀ grid messages j = size - j
 
 fitting-requires : tie.Need-fitting-requires Inv-loop μ-loop
 fitting-requires c κs = search needs
@@ -45,8 +45,8 @@ loop-holds c =
     let a = c .before .before .before .before .before .before .before .args in (
       c .before .before .before .before .fitting .ensures,
       omega arith,
-      rows-start (now (a .crashes)) (now (a .reaches)) (a .t3) (a .round) (c .before .before .before .completing-row .ensures) (c .before .store-row .ensures),
-      so-far-start (now (a .crashes)) (now (a .reaches)) (a .t3) (a .round) _,
+      rows-start (now (a .crashes)) (now (a .reaches)) (now (a .codes)) (a .round) (c .before .before .before .completing-row .ensures) (c .before .store-row .ensures),
+      so-far-start (now (a .crashes)) (now (a .reaches)) (now (a .codes)) (a .round) _,
       omega arith,
     )
 
@@ -56,17 +56,17 @@ byte-at-requires c κs = search needs
 set-at-requires : tie.Need-set-at-requires Inv-loop μ-loop
 set-at-requires c κs = search needs
 
-array-read-enter-crashing : tie.Need-array-read-enter-crashing Inv-loop μ-loop
-array-read-enter-crashing c = omega arith
+element-copy-out-enter-crashing : tie.Need-element-copy-out-enter-crashing Inv-loop μ-loop
+element-copy-out-enter-crashing c = omega arith
 
 enter-crashing-requires : tie.Need-enter-crashing-requires Inv-loop μ-loop
-enter-crashing-requires c κs = (omega arith, omega arith, c .enter-crashing-arg .given .0 .1)
+enter-crashing-requires c κs = (omega arith, omega arith, c .enter-crashing-arg2 .given .0 .1)
 
 add-messages : tie.Need-add-messages Inv-loop μ-loop
 add-messages c = 
-    let first = completing-few (c .before .before .before .before .before .before .before .before .before .before .fitting .result) _ (omega arith) (c .before .before .before .before .before .before .speakers .ensures) in
-    let few = crashing-low (c .enter-crashing .ensures) (c .before .before .set-at .ok) in
-    let so-far = c .before .before .before .before .before .loop .inv .4 in
+    let first = completing-few (c .before .before .before .before .before .before .before .before .before .before .before .fitting .result) _ (omega arith) (c .before .before .before .before .before .before .before .speakers .ensures) in
+    let few = crashing-low (c .enter-crashing .ensures) (c .before .before .before .set-at .ok) in
+    let so-far = c .before .before .before .before .before .before .loop .inv .4 in
     omega arith
 
 add-j : tie.Need-add-j Inv-loop μ-loop
@@ -77,15 +77,15 @@ loop-less c = omega arith
 
 loop-again : tie.Need-loop-again Inv-loop μ-loop
 loop-again c = 
-    let a = c .before .before .before .before .before .before .before .before .before .before .before .before .before .args in
-    let at = c .before .before .before .before .before .loop in
+    let a = c .before .before .before .before .before .before .before .before .before .before .before .before .before .before .args in
+    let at = c .before .before .before .before .before .before .loop in
     let inv = at .inv in
-    let entered = entered-at (c .enter-crashing .ensures) (c .before .before .before .byte-at .ensures) (c .before .before .set-at .ensures) in
-    let few = crashing-low (c .enter-crashing .ensures) (c .before .before .set-at .ok) in (
+    let entered = entered-at (c .enter-crashing .ensures) (c .before .before .before .before .byte-at .ensures) (c .before .before .before .set-at .ensures) in
+    let few = crashing-low (c .enter-crashing .ensures) (c .before .before .before .set-at .ok) in (
       inv .0,
       omega arith,
-      rows-more (now (a .crashes)) (now (a .reaches)) (a .t3) (a .round) (omega arith) (inv .2) entered,
-      so-far-more (now (a .crashes)) (now (a .reaches)) (a .t3) (a .round) _ (at .j) (inv .3) (entered .sent),
+      rows-more (now (a .crashes)) (now (a .reaches)) (now (a .codes)) (a .round) (omega arith) (inv .2) entered,
+      so-far-more (now (a .crashes)) (now (a .reaches)) (now (a .codes)) (a .round) _ (at .j) (inv .3) (entered .sent),
       omega arith,
     )
 
@@ -95,15 +95,15 @@ returns c =
     let inv = c .before .loop .inv in
     let small : fitting (a .n) ≤ largest = omega arith in
     let sent =
-        all-sent (now (a .crashes)) (now (a .reaches)) (a .t3) (a .round) (fitting (a .n)) _ (inv .0) (omega arith) (c .before .before .before .before .before .completing-row .ensures)
+        all-sent (now (a .crashes)) (now (a .reaches)) (now (a .codes)) (a .round) (fitting (a .n)) _ (inv .0) (omega arith) (c .before .before .before .before .before .completing-row .ensures)
             (c .before .before .speakers .ensures) (inv .3) (omega arith)
     in
     record {
       rows =
-          rows-end (now (a .crashes)) (now (a .reaches)) (a .t3) (a .round) (fitting (a .n)) (inv .0) (c .loop-test .left) (c .before .before .before .store-row .ensures)
+          rows-end (now (a .crashes)) (now (a .reaches)) (now (a .codes)) (a .round) (fitting (a .n)) (inv .0) (c .loop-test .left) (c .before .before .before .store-row .ensures)
               (inv .2);
       counted = sent;
-      few = le-trans (le-of-eq sent) (sent-low (now (a .crashes)) (now (a .reaches)) (a .t3) (a .round) (fitting (a .n)) small (λ k. c .before .before .before .before .before .before .before .shared-slice-known2 .given k .fits));
+      few = le-trans (le-of-eq sent) (sent-low (now (a .crashes)) (now (a .reaches)) (now (a .codes)) (a .round) (fitting (a .n)) small (λ k. c .before .before .before .before .before .before .before .shared-slice-known2 .given k .fits));
     }
 
 pub deliver-spec : {M : Type 1} → statement M
@@ -120,7 +120,7 @@ deliver-spec =
     loop-holds
     byte-at-requires
     set-at-requires
-    array-read-enter-crashing
+    element-copy-out-enter-crashing
     enter-crashing-requires
     add-messages
     add-j

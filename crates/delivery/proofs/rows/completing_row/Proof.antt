@@ -15,10 +15,10 @@ use Rattle.delivery.proofs.rows.completing_row.Statement.{statement}
 use Rattle.delivery.proofs.rows.completing_row.Tie as tie
 
 abbrev Inv-loop : tie.InvT-loop
-Inv-loop n round crashes codes row₀ j₀ row j = (j ≤ n) × Overwritten j (λ k. cond (completesRound round (getD crashes k 0)) (getD codes k 0) nothing) (replicate largest 0) row
+Inv-loop n round codes crashes row₀ j₀ row j = (j ≤ n) × Overwritten j (λ k. cond (completesRound round (getD crashes k 0)) (getD codes k 0) nothing) (replicate largest 0) row
 
 abbrev μ-loop : tie.MeasureT-loop
-μ-loop n round crashes codes row₀ j₀ row j = n - j
+μ-loop n round codes crashes row₀ j₀ row j = n - j
 
 zero-bytes-requires : tie.Need-zero-bytes-requires Inv-loop μ-loop
 zero-bytes-requires c κs = search needs
@@ -32,8 +32,8 @@ byte-at-requires c κs = search needs
 completes-requires : tie.Need-completes-requires Inv-loop μ-loop
 completes-requires c κs = search needs
 
-array-read-heard-or-nothing : tie.Need-array-read-heard-or-nothing Inv-loop μ-loop
-array-read-heard-or-nothing c = omega arith
+element-copy-out-heard-or-nothing : tie.Need-element-copy-out-heard-or-nothing Inv-loop μ-loop
+element-copy-out-heard-or-nothing c = omega arith
 
 heard-or-nothing-requires : tie.Need-heard-or-nothing-requires Inv-loop μ-loop
 heard-or-nothing-requires c κs = search needs
@@ -48,7 +48,7 @@ loop-less : tie.Need-loop-less Inv-loop μ-loop
 loop-less c = omega arith
 
 loop-again : tie.Need-loop-again Inv-loop μ-loop
-loop-again c = (omega arith, over-more (omega arith) (c .before .before .before .before .loop .inv .1) (c .heard-or-nothing .ensures ∙ completing-code _ _ _ (c .before .completes .ensures) (c .before .before .byte-at .ensures)))
+loop-again c = (omega arith, over-more (omega arith) (c .before .before .before .before .before .loop .inv .1) (c .heard-or-nothing .ensures ∙ completing-code _ _ _ (c .before .before .completes .ensures) (c .before .before .before .byte-at .ensures)))
 
 returns : tie.Need-returns Inv-loop μ-loop
 returns c = let end : c .before .loop .j ≡ c .before .before .before .before .args .n = omega arith in over-all (c .before .loop .inv .1) end .is
@@ -63,7 +63,7 @@ completing-row-spec =
     loop-holds
     byte-at-requires
     completes-requires
-    array-read-heard-or-nothing
+    element-copy-out-heard-or-nothing
     heard-or-nothing-requires
     array-write-row
     add-j

@@ -67,24 +67,24 @@ deliver-requires c κs = search needs
 
 returns : tie.Need-returns Inv-loop μ-loop
 returns c =
-    let a = c .before .before .before .before .before .before .before .before .before .before .before .args in
+    let a = c .before .before .before .before .before .before .before .before .before .before .before .before .args in
     let s = scheduleOf (a .n) (a .t) (now (a .votes)) (now (a .crashes)) (now (a .reaches)) in
-    let ok = question-accepted s largest true (c .before .before .before .before .before .before .before .before .before .before .before .pre .0) in
-    let promises = accepted-run s largest true (c .before .before .before .before .before .before .before .before .before .before .before .pre .0) in
-    let at = c .before .before .before .before .before .loop in
-    let said = c .before .before .before .codes-said in
+    let ok = question-accepted s largest true (c .before .before .before .before .before .before .before .before .before .before .before .before .pre .0) in
+    let promises = accepted-run s largest true (c .before .before .before .before .before .before .before .before .before .before .before .before .pre .0) in
+    let at = c .before .before .before .before .before .before .loop in
+    let said = c .before .before .before .before .codes-said in
     let sent = sent-in calls s (ok .n-high) (at .round) (said .result) (at .inv .states) (said .ensures) (c .before .deliver .ensures) in
-    ends-silent fcwfa s (ok .n-high) (promises .own-answers) (c .before .before .before .before .before .before .before .before .before .before .before .pre .1) (at .inv) (promises .silence) (omega arith) (sym sent ∙ c .if1 .taken)
+    ends-silent fcwfa s (ok .n-high) (promises .own-answers) (c .before .before .before .before .before .before .before .before .before .before .before .before .pre .1) (at .inv) (promises .silence) (omega arith) (sym sent ∙ c .if1 .taken)
 
 add-hear-rows : tie.Need-add-hear-rows Inv-loop μ-loop
 add-hear-rows c =
-    let a = c .before .before .before .before .before .before .before .before .before .before .before .args in
+    let a = c .before .before .before .before .before .before .before .before .before .before .before .before .args in
     let s = scheduleOf (a .n) (a .t) (now (a .votes)) (now (a .crashes)) (now (a .reaches)) in
-    let ok = question-accepted s largest true (c .before .before .before .before .before .before .before .before .before .before .before .pre .0) in
+    let ok = question-accepted s largest true (c .before .before .before .before .before .before .before .before .before .before .before .before .pre .0) in
     let n-high = ok .n-high in
     let t-high = ok .rules .t-high in
-    let rounds = c .before .before .before .before .before .before .before .before .before .before .before .pre .1 in
-    let inside = c .before .before .before .before .before .loop .inv .inside in
+    let rounds = c .before .before .before .before .before .before .before .before .before .before .before .before .pre .1 in
+    let inside = c .before .before .before .before .before .before .loop .inv .inside in
     omega arith
 
 hear-rows-requires : tie.Need-hear-rows-requires Inv-loop μ-loop
@@ -92,26 +92,26 @@ hear-rows-requires c κs = search needs
 
 add-messages : tie.Need-add-messages Inv-loop μ-loop
 add-messages c =
-    let a = c .before .before .before .before .before .before .before .before .before .before .before .before .before .args in
+    let a = c .before .before .before .before .before .before .before .before .before .before .before .before .before .before .args in
     let s = scheduleOf (a .n) (a .t) (now (a .votes)) (now (a .crashes)) (now (a .reaches)) in
-    let ok = question-accepted s largest true (c .before .before .before .before .before .before .before .before .before .before .before .before .before .pre .0) in
+    let ok = question-accepted s largest true (c .before .before .before .before .before .before .before .before .before .before .before .before .before .before .pre .0) in
     let n-high = ok .n-high in
     let t-high = ok .rules .t-high in
-    let rounds = c .before .before .before .before .before .before .before .before .before .before .before .before .before .pre .1 in
-    let inside = c .before .before .before .before .before .before .before .loop .inv .inside in
-    let few = c .before .before .before .before .before .before .before .loop .inv .few in
+    let rounds = c .before .before .before .before .before .before .before .before .before .before .before .before .before .before .pre .1 in
+    let inside = c .before .before .before .before .before .before .before .before .loop .inv .inside in
+    let few = c .before .before .before .before .before .before .before .before .loop .inv .few in
     let high = c .before .before .before .deliver .ensures .few in
     omega arith
 
 add-round : tie.Need-add-round Inv-loop μ-loop
 add-round c =
-    let a = c .before .before .before .before .before .before .before .before .before .before .before .before .before .args in
+    let a = c .before .before .before .before .before .before .before .before .before .before .before .before .before .before .args in
     let s = scheduleOf (a .n) (a .t) (now (a .votes)) (now (a .crashes)) (now (a .reaches)) in
-    let ok = question-accepted s largest true (c .before .before .before .before .before .before .before .before .before .before .before .before .before .pre .0) in
+    let ok = question-accepted s largest true (c .before .before .before .before .before .before .before .before .before .before .before .before .before .before .pre .0) in
     let n-high = ok .n-high in
     let t-high = ok .rules .t-high in
-    let rounds = c .before .before .before .before .before .before .before .before .before .before .before .before .before .pre .1 in
-    let inside = c .before .before .before .before .before .before .before .loop .inv .inside in
+    let rounds = c .before .before .before .before .before .before .before .before .before .before .before .before .before .before .pre .1 in
+    let inside = c .before .before .before .before .before .before .before .before .loop .inv .inside in
     omega arith
 
 loop-less : tie.Need-loop-less Inv-loop μ-loop
@@ -119,11 +119,11 @@ loop-less c = omega arith
 
 loop-again : tie.Need-loop-again Inv-loop μ-loop
 loop-again c =
-    let a = c .before .before .before .before .before .before .before .before .before .before .before .before .before .args in
+    let a = c .before .before .before .before .before .before .before .before .before .before .before .before .before .before .args in
     let s = scheduleOf (a .n) (a .t) (now (a .votes)) (now (a .crashes)) (now (a .reaches)) in
-    let ok = question-accepted s largest true (c .before .before .before .before .before .before .before .before .before .before .before .before .before .pre .0) in
-    let at = c .before .before .before .before .before .before .before .loop in
-    let said = c .before .before .before .before .before .codes-said in
+    let ok = question-accepted s largest true (c .before .before .before .before .before .before .before .before .before .before .before .before .before .before .pre .0) in
+    let at = c .before .before .before .before .before .before .before .before .loop in
+    let said = c .before .before .before .before .before .before .codes-said in
     goes-on calls s (ok .n-high) (at .round) (said .result) (at .inv .states) (said .ensures) (c .before .before .before .deliver .ensures) (at .inv) (omega arith)
         (c .hear-rows .ensures)
 

@@ -18,8 +18,8 @@ hear-rows-requires c κs = search needs
 
 returns : tie.Need-returns
 returns c =
-    let a = c .before .before .before .before .before .before .before .args in
-    let said = c .before .before .before .before .codes-said in
+    let a = c .before .before .before .before .before .before .before .before .args in
+    let said = c .before .before .before .before .before .codes-said in
     plays-round calls (fitting (a .n)) (a .round) (said .result) (now (a .crashes)) (now (a .reaches)) (a .members) (said .ensures) (c .before .before .deliver .ensures)
         (c .hear-rows .ensures)
 
