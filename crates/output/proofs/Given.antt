@@ -11,13 +11,14 @@ use lib.ListN.{length, getD}
 use lib.Dec.{eqb}
 use Rattle.laws.specs.Answer.{Answer, accepted, placeAfter}
 use Rattle.laws.proofs.Test.{true-or-false}
-use Rattle.laws.proofs.Lists.{read-same}
+use Rattle.laws.proofs.Lists.{length-tabulate, read-same}
 use Rattle.laws.proofs.Answer.{answer-accepted, valueOr, place-given}
 use Rattle.schedule.specs.Schedule.{Schedule}
 use Rattle.schedule.specs.Questions.{question}
 use Rattle.schedule.proofs.Accepted.{question-accepted}
-use Rattle.run.specs.Protocol.{fcwfa}
-use Rattle.run.specs.Report.{Report, report}
+use Rattle.run.specs.Protocol.{Protocol, fcwfa}
+use Rattle.run.specs.Run.{final}
+use Rattle.run.specs.Report.{Report, roundOf, decisionOf, report}
 use Rattle.run.proofs.Theorem.{accepted-run}
 use Rattle.simulator.specs.declared.Counts.{Counts}
 use Rattle.simulator.specs.Answers.{countsOf, givenBy, simulateQuestion, simulateAnswer}
@@ -26,22 +27,25 @@ use Rattle.report.specs.Shown.{areDecisions}
 use Rattle.report.proofs.Decisions as Decisions
 
 module _ (limit : ℕ) (s : Schedule) (decisions rounds : List ℕ) (passed : simulateQuestion limit s decisions rounds ≡ 0) where
-  pub counts-given : simulateAnswer limit s decisions rounds ≡ accepted (countsOf (report fcwfa s))
+  pub counts-given : (P : Protocol) → simulateAnswer P limit s decisions rounds ≡ accepted (countsOf (report P s))
   unfolding simulateAnswer
-  counts-given = answer-accepted _ _ _ passed
+  counts-given P = answer-accepted _ _ _ passed
 
   pub table-given : (given lent : List ℕ) → placeAfter (simulateQuestion limit s decisions rounds) given lent ≡ given
   table-given given lent = place-given _ given lent passed
 
+-- the tables of a report have an entry for each process
+module _ (P : Protocol) (s : Schedule) where
+  pub decisions-long : length (report P s .decisions) ≡ s .n
+  decisions-long = length-tabulate (s .n) (decisionOf (final P s))
+
+  pub rounds-long : length (report P s .rounds) ≡ s .n
+  rounds-long = length-tabulate (s .n) (roundOf (final P s))
+
+-- FCWFA decides 0 or 1
 module _ (s : Schedule) (limit : ℕ) (answers : Bool) (passed : question s limit answers ≡ 0) where
   pub n-small : s .n ≤ limit
   n-small = question-accepted s limit answers passed .n-high
-
-  pub decisions-long : length (report fcwfa s .decisions) ≡ s .n
-  decisions-long = accepted-run s limit answers passed .reported .decisions-long
-
-  pub rounds-long : length (report fcwfa s .rounds) ≡ s .n
-  rounds-long = accepted-run s limit answers passed .reported .rounds-long
 
   each-decision : (i : ℕ) → i < length (report fcwfa s .decisions) → getD (report fcwfa s .decisions) i 0 ≤ 2
   each-decision i below =

@@ -19,7 +19,7 @@ use Rattle.sets.specs.Largest.{largest}
 use Rattle.schedule.specs.Schedule.{Schedule, scheduleOf}
 use Rattle.schedule.specs.Questions.{tablesOf, question}
 use Rattle.schedule.proofs.Accepted.{question-accepted}
-use Rattle.run.specs.Protocol.{fcwfa}
+use Rattle.run.specs.Protocol.{Protocol, fcwfa}
 use Rattle.run.specs.Report.{report}
 use Rattle.text.specs.Forms.{Sizes}
 use Rattle.text.specs.Reading.{longest, onLine, sizesIn, scheduleIn, textQuestions, textAnswer}
@@ -86,9 +86,9 @@ module _ (text votes crashes reaches : List ℕ) (ev : length votes ≡ largest)
     pub read-question : (s : Schedule) → s ≡ scheduleIn text → question s largest true ≡ 0
     read-question s h = subst (λ (x : Schedule). question x largest true ≡ 0) (sym h) (Text.accepted-schedule text largest longest (scheduleIn text) text-accepted)
 
-    pub report-printed : (s : Schedule) → s ≡ scheduleIn text → reportText (s .n) (s .t) (report fcwfa s) ≡ outputOf fcwfa text largest longest
+    pub report-printed : (P : Protocol) (s : Schedule) → s ≡ scheduleIn text → reportText (s .n) (s .t) (report P s) ≡ outputOf P text largest longest
     unfolding outputOf
-    report-printed s h = ap (λ (x : Schedule). reportText (x .n) (x .t) (report fcwfa x)) h ∙ sym (ap (printed fcwfa text) text-accepted)
+    report-printed P s h = ap (λ (x : Schedule). reportText (x .n) (x .t) (report P x)) h ∙ sym (ap (printed P text) text-accepted)
 
   module _ {number k : ℕ} (e : refused number k ≡ readAnswer largest longest text votes crashes reaches) where
     refuses : asked ≡ refused number k
@@ -102,9 +102,9 @@ module _ (text votes crashes reaches : List ℕ) (ev : length votes ≡ largest)
     pub line-shown : length (lineOf k text) ≤ longest
     line-shown = Text.line-short text largest longest number k text-refused
 
-    pub refusal-printed : refusalText number k (lineOf k text) ≡ outputOf fcwfa text largest longest
+    pub refusal-printed : (P : Protocol) → refusalText number k (lineOf k text) ≡ outputOf P text largest longest
     unfolding outputOf
-    refusal-printed = sym (ap (printed fcwfa text) text-refused)
+    refusal-printed P = sym (ap (printed P text) text-refused)
 
 -- The length counts bytes at the start of the buffer.
 pub counts : (written : List ℕ) {r : Output} → r ≡ outputIs written → r .length ≤ outputSize → Counts (r .length) (r .bytes)

@@ -15,7 +15,7 @@ use Rattle.delivery.proofs.deliver.Statement.{statement}
 use Rattle.delivery.proofs.deliver.Tie as tie
 
 abbrev Inv-loop : tie.InvT-loop
-Inv-loop n round codes crashes reaches grid₀ size messages₀ j₀ grid messages j = 
+Inv-loop n round codes crashes reaches grid₀ size messages₀ j₀ grid messages j =
     (size ≡ fitting n)
     × (j ≤ size)
     × RowsSoFar crashes reaches codes round size j grid₀ grid
@@ -41,7 +41,7 @@ mul-messages : tie.Need-mul-messages Inv-loop μ-loop
 mul-messages c = let first = completing-few (c .before .before .before .before .fitting .result) _ (omega arith) (c .speakers .ensures) in omega arith
 
 loop-holds : tie.Need-loop-holds Inv-loop μ-loop
-loop-holds c = 
+loop-holds c =
     let a = c .before .before .before .before .before .before .before .args in (
       c .before .before .before .before .fitting .ensures,
       omega arith,
@@ -63,7 +63,7 @@ enter-crashing-requires : tie.Need-enter-crashing-requires Inv-loop μ-loop
 enter-crashing-requires c κs = (omega arith, omega arith, c .enter-crashing-arg2 .given .0 .1)
 
 add-messages : tie.Need-add-messages Inv-loop μ-loop
-add-messages c = 
+add-messages c =
     let first = completing-few (c .before .before .before .before .before .before .before .before .before .before .before .fitting .result) _ (omega arith) (c .before .before .before .before .before .before .before .speakers .ensures) in
     let few = crashing-low (c .enter-crashing .ensures) (c .before .before .before .set-at .ok) in
     let so-far = c .before .before .before .before .before .before .loop .inv .4 in
@@ -76,7 +76,7 @@ loop-less : tie.Need-loop-less Inv-loop μ-loop
 loop-less c = omega arith
 
 loop-again : tie.Need-loop-again Inv-loop μ-loop
-loop-again c = 
+loop-again c =
     let a = c .before .before .before .before .before .before .before .before .before .before .before .before .before .before .args in
     let at = c .before .before .before .before .before .before .loop in
     let inv = at .inv in
@@ -90,18 +90,18 @@ loop-again c =
     )
 
 returns : tie.Need-returns Inv-loop μ-loop
-returns c = 
+returns c =
     let a = c .before .before .before .before .before .before .before .before .before .args in
     let inv = c .before .loop .inv in
     let small : fitting (a .n) ≤ largest = omega arith in
     let sent =
-        all-sent (now (a .crashes)) (now (a .reaches)) (now (a .codes)) (a .round) (fitting (a .n)) _ (inv .0) (omega arith) (c .before .before .before .before .before .completing-row .ensures)
-            (c .before .before .speakers .ensures) (inv .3) (omega arith)
+    all-sent (now (a .crashes)) (now (a .reaches)) (now (a .codes)) (a .round) (fitting (a .n)) _ (inv .0) (omega arith) (c .before .before .before .before .before .completing-row .ensures)
+    (c .before .before .speakers .ensures) (inv .3) (omega arith)
     in
     record {
       rows =
           rows-end (now (a .crashes)) (now (a .reaches)) (now (a .codes)) (a .round) (fitting (a .n)) (inv .0) (c .loop-test .left) (c .before .before .before .store-row .ensures)
-              (inv .2);
+          (inv .2);
       counted = sent;
       few = le-trans (le-of-eq sent) (sent-low (now (a .crashes)) (now (a .reaches)) (now (a .codes)) (a .round) (fitting (a .n)) small (λ k. c .before .before .before .before .before .before .before .shared-slice-known2 .given k .fits));
     }

@@ -16,7 +16,7 @@ no-members-requires : tie.Need-no-members-requires
 no-members-requires c κs = search needs
 
 returns : tie.Need-returns
-returns c = 
+returns c =
     let a = c .before .before .before .before .before .before .args in
     let s = scheduleOf (a .n) (a .t) (now (a .votes)) (now (a .crashes)) (now (a .reaches)) in
     refused-leaves fcwfa s _ (min (a .last) (a .t + 1)) (c .before .before .question .ensures) (c .before .if1 .taken) (c .no-members .ensures)
@@ -25,13 +25,13 @@ end-round-requires : tie.Need-end-round-requires
 end-round-requires c κs = search needs
 
 play-requires : tie.Need-play-requires
-play-requires c κs = 
+play-requires c κs =
     let a = c .before .before .before .before .before .before .args in
     let s = scheduleOf (a .n) (a .t) (now (a .votes)) (now (a .crashes)) (now (a .reaches)) in
     (accepted-alone s _ (c .before .before .question .ensures) (c .before .if1 .left), omega arith)
 
 returns-2 : tie.Need-returns-2
-returns-2 c = 
+returns-2 c =
     let a = c .before .before .before .before .before .before .before .before .args in
     let s = scheduleOf (a .n) (a .t) (now (a .votes)) (now (a .crashes)) (now (a .reaches)) in
     accepted-leaves fcwfa s _ (min (a .last) (a .t + 1)) (c .before .before .before .before .question .ensures) (c .before .before .before .if1 .left) (c .before .before .end-round .ensures) (c .before .play .ensures)

@@ -79,7 +79,7 @@ returns c =
     let d = c .before .before in
     let text = d .before .before .before .before .before .before .before .before .before .before .before .before .before .args .text .now in
     let long = sized (d .before .before .before .before .before) in
-    let e = c .of-tables .ensures .0 ∙ ap outputIs (report-printed text _ _ _ (long .0) (long .1) (long .2) (accepts d) _ (schedule d)) in
+    let e = c .of-tables .ensures .0 ∙ ap outputIs (report-printed text _ _ _ (long .0) (long .1) (long .2) (accepts d) fcwfa _ (schedule d)) in
     (e, (counts (outputOf fcwfa text largest longest) e (c .of-tables .ensures .1), keeps-demand-3 text _ e (c .of-tables .ensures .1)))
 
 returns-2 : tie.Need-returns-2
@@ -87,7 +87,7 @@ returns-2 c =
     let d = c .before .before in
     let text = d .before .before .before .before .before .before .before .before .before .before .before .before .before .args .text .now in
     let long = sized (d .before .before .before .before .before) in
-    let e = c .refused .ensures .0 ∙ ap outputIs (refusal-printed text _ _ _ (long .0) (long .1) (long .2) (refuses d)) in
+    let e = c .refused .ensures .0 ∙ ap outputIs (refusal-printed text _ _ _ (long .0) (long .1) (long .2) (refuses d) fcwfa) in
     (e, (counts (outputOf fcwfa text largest longest) e (c .refused .ensures .1), keeps-demand-3 text _ e (c .refused .ensures .1)))
 
 pub printed-spec : {M : Type 1} → statement M

@@ -53,13 +53,13 @@ loop-less : tie.Need-loop-less Inv-loop μ-loop
 loop-less c = omega arith
 
 loop-again : tie.Need-loop-again Inv-loop μ-loop
-loop-again c = 
+loop-again c =
     let a = c .before .before .before .before .before .before .args in
     let at = c .before .before .before .loop in (
       omega arith,
       over-more (omega arith) (at .inv .1)
-      (ap₂ (λ (row : List ℕ) (x : ℕ). set row (a .j) x) (over-past (at .inv .1) (at .i) [] (omega arith))
-      (c .heard-or-nothing .ensures ∙ ap (λ (b : Bool). cond b (a .code) nothing) (c .before .is-named .ensures))),
+          (ap₂ (λ (row : List ℕ) (x : ℕ). set row (a .j) x) (over-past (at .inv .1) (at .i) [] (omega arith))
+          (c .heard-or-nothing .ensures ∙ ap (λ (b : Bool). cond b (a .code) nothing) (c .before .is-named .ensures))),
     )
 
 ones-requires : tie.Need-ones-requires Inv-loop μ-loop
@@ -70,20 +70,20 @@ same-length c = over-long (c .before .before .loop .inv .1) (omega arith)
 
 returns-3 : tie.Need-returns-3 Inv-loop μ-loop
 returns-3 c = record {
-      crashing = λ some same. over-all (c .before .before .loop .inv .1) (omega arith);
-      other = λ e. absurd (⊎-elim (c .before .before .before .before .if1 .left) (λ past. past (c .before .before .before .if2 .left)) e);
-      sent = silence-added _ _ _ _ (c .if3 .taken);
-    }
+  crashing = λ some same. over-all (c .before .before .loop .inv .1) (omega arith);
+  other = λ e. absurd (⊎-elim (c .before .before .before .before .if1 .left) (λ past. past (c .before .before .before .if2 .left)) e);
+  sent = silence-added _ _ _ _ (c .if3 .taken);
+}
 
 same-length-2 : tie.Need-same-length-2 Inv-loop μ-loop
 same-length-2 c = over-long (c .before .before .before .loop .inv .1) (omega arith)
 
 returns-4 : tie.Need-returns-4 Inv-loop μ-loop
 returns-4 c = record {
-      crashing = λ some same. over-all (c .before .before .before .loop .inv .1) (omega arith);
-      other = λ e. absurd (⊎-elim (c .before .before .before .before .before .if1 .left) (λ past. past (c .before .before .before .before .if2 .left)) e);
-      sent = c .ones .ensures ∙ reach-added _ _ _ _ (c .before .if3 .left) (c .before .before .before .before .before .if1 .left) (c .before .before .before .before .if2 .left);
-    }
+  crashing = λ some same. over-all (c .before .before .before .loop .inv .1) (omega arith);
+  other = λ e. absurd (⊎-elim (c .before .before .before .before .before .if1 .left) (λ past. past (c .before .before .before .before .if2 .left)) e);
+  sent = c .ones .ensures ∙ reach-added _ _ _ _ (c .before .if3 .left) (c .before .before .before .before .before .if1 .left) (c .before .before .before .before .if2 .left);
+}
 
 pub enter-crashing-spec : {M : Type 1} → statement M
 enter-crashing-spec =

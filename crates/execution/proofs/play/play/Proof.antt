@@ -125,7 +125,7 @@ loop-again c =
     let at = c .before .before .before .before .before .before .before .before .loop in
     let said = c .before .before .before .before .before .before .codes-said in
     goes-on calls s (ok .n-high) (at .round) (said .result) (at .inv .states) (said .ensures) (c .before .before .before .deliver .ensures) (at .inv) (omega arith)
-        (c .hear-rows .ensures)
+    (c .hear-rows .ensures)
 
 returns-2 : tie.Need-returns-2 Inv-loop μ-loop
 returns-2 c =

@@ -46,12 +46,12 @@ loop-less : tie.Need-loop-less Inv-loop μ-loop
 loop-less c = omega arith
 
 loop-again : tie.Need-loop-again Inv-loop μ-loop
-loop-again c = 
+loop-again c =
     let inv = c .before .before .before .loop .inv in
     (inv .0, omega arith, over-more (omega arith) (inv .2) (c .said .ensures))
 
 returns : tie.Need-returns Inv-loop μ-loop
-returns c = 
+returns c =
     let inv = c .before .loop .inv in
     let end : c .before .loop .i ≡ fitting (c .before .before .before .before .args .n) = omega arith in
     over-all (inv .2) end .is

@@ -19,7 +19,7 @@ use Rattle.execution.proofs.round.hear_rows.Statement.{statement}
 use Rattle.execution.proofs.round.hear_rows.Tie as tie
 
 abbrev Inv-loop : tie.InvT-loop
-Inv-loop n round crashes grid size next₀ i₀ next i = 
+Inv-loop n round crashes grid size next₀ i₀ next i =
     (size ≡ fitting n)
     × (i ≤ size)
     × Overwritten i (λ k. stateAfter calls round (getD crashes k 0) (stateAt next₀ k) (take size (getD grid k []))) next₀ next
@@ -75,9 +75,9 @@ loop-again c =
       at .inv .0,
       omega arith,
       over-more (omega arith) (at .inv .2)
-      (c .next-state .ensures
-      ∙ ap₂ (λ (crash : ℕ) (m : Member). stateAfter calls (a .round) crash m (take size (getD (now (a .grid)) (at .i) [])))
-      (c .before .before .byte-at .ensures) (over-past (at .inv .2) (at .i) nobody (omega arith))),
+          (c .next-state .ensures
+          ∙ ap₂ (λ (crash : ℕ) (m : Member). stateAfter calls (a .round) crash m (take size (getD (now (a .grid)) (at .i) [])))
+          (c .before .before .byte-at .ensures) (over-past (at .inv .2) (at .i) nobody (omega arith))),
       at .inv .3,
     )
 

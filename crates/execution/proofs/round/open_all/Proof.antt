@@ -52,7 +52,7 @@ loop-less : tie.Need-loop-less Inv-loop μ-loop
 loop-less c = omega arith
 
 loop-again : tie.Need-loop-again Inv-loop μ-loop
-loop-again c = 
+loop-again c =
     let inv = c .before .before .before .loop .inv in
     let long = length-replicate largest nobody in
     (inv .0, omega arith, over-more (omega arith) (inv .2) (c .opened .ensures ∙ ap (calls .opening _ _ _) (c .before .byte-at .ensures)))

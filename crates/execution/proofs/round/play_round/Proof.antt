@@ -21,7 +21,7 @@ returns c =
     let a = c .before .before .before .before .before .before .before .before .args in
     let said = c .before .before .before .before .before .codes-said in
     plays-round calls (fitting (a .n)) (a .round) (said .result) (now (a .crashes)) (now (a .reaches)) (a .members) (said .ensures) (c .before .before .deliver .ensures)
-        (c .hear-rows .ensures)
+    (c .hear-rows .ensures)
 
 pub play-round-spec : {M : Type 1} → statement M
 play-round-spec =

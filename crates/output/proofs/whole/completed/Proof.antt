@@ -58,7 +58,7 @@ lentRounds c = now (c .before .before .before .before .before .before .before .b
 
 -- it is accepted, so the simulator gives the counts of its report
 counted : (c : tie.After-simulate) → simulatedIs (c .simulate .result) ≡ accepted (countsOf (report fcwfa (given c)))
-counted c = c .simulate .ensures .answered ∙ counts-given largest (given c) (lentDecisions c) (lentRounds c) (c .before .before .before .before .before .before .before .before .before .pre)
+counted c = c .simulate .ensures .answered ∙ counts-given largest (given c) (lentDecisions c) (lentRounds c) (c .before .before .before .before .before .before .before .before .before .pre) fcwfa
 
 -- and its tables
 decided : (c : tie.After-simulate) → c .simulate .last .1 .1 .1 .1 .1 .0 ≡ report fcwfa (given c) .decisions
@@ -95,8 +95,8 @@ all-shown c =
     let d = c .before .before .before .before .before .before .before .before .before .before .before in
     let s = given d in
     let pre = d .before .before .before .before .before .before .before .before .before .pre in
-    let long : length (d .simulate .last .1 .1 .1 .1 .1 .0) ≡ s .n = ap length (decided d) ∙ decisions-long s largest _ pre in
-    let rounds : length (d .simulate .last .1 .1 .1 .1 .1 .1 .0) ≡ s .n = ap length (timed d) ∙ rounds-long s largest _ pre in
+    let long : length (d .simulate .last .1 .1 .1 .1 .1 .0) ≡ s .n = ap length (decided d) ∙ decisions-long fcwfa s in
+    let rounds : length (d .simulate .last .1 .1 .1 .1 .1 .1 .0) ≡ s .n = ap length (timed d) ∙ rounds-long fcwfa s in
     shown-all (s .t) _ _ _ (rounds ∙ sym long) (ap areDecisions (decided d) ∙ all-decisions s largest _ pre)
 
 same-text : (c : tie.After-put-report) → let d = c .before .before .before .before .before .before .before .before .before .before .before in let s = given d in let k = c .before .before .before .before .before .answer .given .0 .0 in
@@ -106,7 +106,7 @@ same-text c =
     let d = c .before .before .before .before .before .before .before .before .before .before .before in
     let s = given d in
     let pre = d .before .before .before .before .before .before .before .before .before .pre in
-    print-given (report fcwfa s) (s .n) (s .t) _ _ _ (ap length (decided d) ∙ decisions-long s largest _ pre) (sym (ap simulatedIs (c .before .before .before .before .before .answer .given .1)) ∙ counted d) (decided d) (timed d)
+    print-given (report fcwfa s) (s .n) (s .t) _ _ _ (ap length (decided d) ∙ decisions-long fcwfa s) (sym (ap simulatedIs (c .before .before .before .before .before .answer .given .1)) ∙ counted d) (decided d) (timed d)
 
 returns-2 : tie.Need-returns-2
 returns-2 c =
@@ -115,7 +115,7 @@ returns-2 c =
     let pre = d .before .before .before .before .before .before .before .before .before .pre in
     let k = c .before .before .before .before .before .before .answer .given .0 .0 in
     let n : s .n ≤ largest = n-small s largest _ pre in
-    let long : length (d .simulate .last .1 .1 .1 .1 .1 .0) ≡ s .n = ap length (decided d) ∙ decisions-long s largest _ pre in
+    let long : length (d .simulate .last .1 .1 .1 .1 .1 .0) ≡ s .n = ap length (decided d) ∙ decisions-long fcwfa s in
     let t : s .t < 2 ^ 64 = search needs in
     let counts = of-64-bits (c .before .before .before .before .before) in
     let rounds = d .simulate .last .1 .1 .1 .1 .1 .1 .0 in
