@@ -4,14 +4,22 @@ use Prim.Native.Nat.{ℕ}
 use mathlib.Core.Path.{_≡_}
 use mathlib.Core.List.{List, [], _∷_, map}
 use lib.ListN.{getD}
+use Rattle.sets.specs.Largest.{largest}
+use Rattle.member.specs.declared.Member.{Member}
+use Rattle.member.specs.Opening.{opening}
 use Rattle.schedule.specs.Four.{four, allOne, allZero}
 use Rattle.schedule.specs.Schedule.{scheduleOf, crashedBy}
+use Rattle.run.specs.Protocol.{fcwfa, nobody, byCalls}
 use Rattle.run.specs.Report.{firstOf, lastOf}
 use Rattle.run.specs.Demand.{roundB}
 
 -- the decided rounds of four processes, 0 for none
 abbrev pub decidedIn : List ℕ → ℕ → ℕ
 decidedIn rounds i = getD rounds i 0
+
+-- a member of four in round 9, which is not in range: t is 3
+abbrev pub lateMember : Member
+lateMember = record { n = 4; t = 3; id = 1; round = 9; estimate = 1; decided = 0 }
 
 pub record RunVectors : Type 0 where
   -- B = f + 2 if f ≤ t − 2 and f + 1 otherwise: t = 3 with no crash to three, and t = 5 with no crash to five
@@ -23,3 +31,9 @@ pub record RunVectors : Type 0 where
   pub first : map (λ rounds. firstOf (decidedIn rounds) 4) (four 3 2 2 0 ∷ four 0 4 0 3 ∷ allZero ∷ []) ≡ 2 ∷ 4 ∷ 0 ∷ []
   -- "the largest decided round"
   pub last : map (λ rounds. lastOf (decidedIn rounds) 4) (four 3 2 2 0 ∷ four 0 4 0 3 ∷ allZero ∷ []) ≡ 3 ∷ 4 ∷ 0 ∷ []
+  -- what the answers of calls come to: an opening with n = 3, and a member in a round past the last, which says nothing and keeps its state whatever it
+  -- hears; and calls that are accepted
+  pub refused-opening : map (λ n. byCalls largest fcwfa .opening n 3 1 1) (3 ∷ 4 ∷ []) ≡ nobody ∷ opening 4 3 1 1 ∷ []
+  pub refused-saying : map (byCalls largest fcwfa .says) (lateMember ∷ opening 4 3 1 1 ∷ []) ≡ 0 ∷ 2 ∷ []
+  pub refused-hearing : map (λ m. byCalls largest fcwfa .hears m (four 2 2 2 2)) (lateMember ∷ opening 4 3 1 1 ∷ [])
+      ≡ lateMember ∷ record { n = 4; t = 3; id = 1; round = 2; estimate = 1; decided = 0 } ∷ []

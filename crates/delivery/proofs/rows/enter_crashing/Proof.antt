@@ -3,8 +3,8 @@
 use Prim.Native.Nat.{ℕ, _-_, _≤_}
 use mathlib.Core.Bool.{Bool, cond}
 use mathlib.Core.List.{List, []}
-use mathlib.Core.Logic.{inl, inr, ⊎-elim}
-use mathlib.Core.Path.{refl, _∙_, ap, ap₂}
+use mathlib.Core.Logic.{_≢_, inl, inr, ⊎-elim}
+use mathlib.Core.Path.{_≡_, refl, _∙_, ap, ap₂}
 use native.Mathlib.Omega.{arith}
 use borrow.Author.Needs.{needs}
 use lib.ListN.{getD, set}
@@ -23,10 +23,15 @@ abbrev μ-loop : tie.MeasureT-loop
 μ-loop n round j code crash reach grid₀ i₀ grid i = n - i
 
 returns : tie.Need-returns Inv-loop μ-loop
-returns c = record { crashing = λ some same. absurd (some (c .if1 .taken)); other = λ _. refl; sent = nothing-added _ _ _ _ (inl (c .if1 .taken)) }
+returns c =
+    let a = c .before .args in
+    record { crashing = λ some same. absurd (some (omega arith)); other = λ _. refl; sent = nothing-added (a .round) (a .crash) (a .reach) (a .code) (inl (omega arith)) }
 
 returns-2 : tie.Need-returns-2 Inv-loop μ-loop
-returns-2 c = record { crashing = λ some same. absurd (c .if2 .taken same); other = λ _. refl; sent = nothing-added _ _ _ _ (inr (c .if2 .taken)) }
+returns-2 c =
+    let a = c .before .before .args in
+    let past : a .crash ≢ a .round = λ e. omega arith in
+    record { crashing = λ some same. absurd (past same); other = λ _. refl; sent = nothing-added (a .round) (a .crash) (a .reach) (a .code) (inr past) }
 
 loop-holds : tie.Need-loop-holds Inv-loop μ-loop
 loop-holds c = (omega arith, over-start refl)
@@ -69,21 +74,29 @@ same-length : tie.Need-same-length Inv-loop μ-loop
 same-length c = over-long (c .before .before .loop .inv .1) (omega arith)
 
 returns-3 : tie.Need-returns-3 Inv-loop μ-loop
-returns-3 c = record {
-  crashing = λ some same. over-all (c .before .before .loop .inv .1) (omega arith);
-  other = λ e. absurd (⊎-elim (c .before .before .before .before .if1 .left) (λ past. past (c .before .before .before .if2 .left)) e);
-  sent = silence-added _ _ _ _ (c .if3 .taken);
-}
+returns-3 c =
+    let a = c .before .before .before .before .before .args in
+    let some : a .crash ≢ 0 = λ e. omega arith in
+    let same : a .crash ≡ a .round = omega arith in
+    record {
+      crashing = λ _ _. over-all (c .before .before .loop .inv .1) (omega arith);
+      other = λ e. absurd (⊎-elim some (λ past. past same) e);
+      sent = silence-added (a .round) (a .crash) (a .reach) (a .code) (omega arith);
+    }
 
 same-length-2 : tie.Need-same-length-2 Inv-loop μ-loop
 same-length-2 c = over-long (c .before .before .before .loop .inv .1) (omega arith)
 
 returns-4 : tie.Need-returns-4 Inv-loop μ-loop
-returns-4 c = record {
-  crashing = λ some same. over-all (c .before .before .before .loop .inv .1) (omega arith);
-  other = λ e. absurd (⊎-elim (c .before .before .before .before .before .if1 .left) (λ past. past (c .before .before .before .before .if2 .left)) e);
-  sent = c .ones .ensures ∙ reach-added _ _ _ _ (c .before .if3 .left) (c .before .before .before .before .before .if1 .left) (c .before .before .before .before .if2 .left);
-}
+returns-4 c =
+    let a = c .before .before .before .before .before .before .args in
+    let some : a .crash ≢ 0 = λ e. omega arith in
+    let same : a .crash ≡ a .round = omega arith in
+    record {
+      crashing = λ _ _. over-all (c .before .before .before .loop .inv .1) (omega arith);
+      other = λ e. absurd (⊎-elim some (λ past. past same) e);
+      sent = c .ones .ensures ∙ reach-added (a .round) (a .crash) (a .reach) (a .code) (λ e. omega arith) some same;
+    }
 
 pub enter-crashing-spec : {M : Type 1} → statement M
 enter-crashing-spec =
