@@ -20,14 +20,14 @@ use Rattle.sets.specs.Largest.{largest, fitting}
 use Rattle.sets.specs.Tables.{padded}
 use Rattle.schedule.specs.Schedule.{Schedule, crashOf, reachOf}
 use Rattle.run.specs.Protocol.{Protocol, nobody, byCalls}
-use Rattle.run.specs.Run.{delivered, rowHeard, stateAt, codeSaid, codeHeard, rowOf, stateAfter, nextState, statesAfter, after}
+use Rattle.run.specs.Run.{delivered, stateAt, codeSaid, codeHeard, rowOf, stateAfter, nextState, statesAfter, after}
 use Rattle.run.specs.Report.{sentBy, messagesOf, sentAfter}
 use Rattle.run.specs.Facts.{SilentFrom, OwnAnswers}
 use Rattle.run.proofs.Rounds.{states-long, step-is, who-moves}
 use Rattle.delivery.specs.Delivery.{Delivers}
 use Rattle.execution.specs.Rounds.{noMembers, Opens, HearsRows}
 use Rattle.execution.specs.Ran.{membersAfter, Plays}
-use Rattle.execution.proofs.OneRound.{code-at, hears-codes}
+use Rattle.execution.proofs.OneRound.{rowHeard, code-at, hears-codes}
 
 module _ (P : Protocol) (s : Schedule) where
   -- members that stand as after r rounds, with nobody after them

@@ -1,6 +1,6 @@
 -- One round of the code is one round of the definitions: the first n codes of a row in the grid are the row of its process, and the codes are what the
 -- members say. Assumes nothing.
-use mathlib.Core.Path.{_≡_, ap, ap₂, _∙_}
+use mathlib.Core.Path.{_≡_, ap, _∙_}
 use mathlib.Core.List.{List, [], _++_}
 use Prim.Native.Nat.{ℕ, _+_, _<_}
 use lib.ListN.{getD, take, drop, replicate}
@@ -14,10 +14,14 @@ use Rattle.member.specs.declared.Member.{Member}
 use Rattle.sets.specs.Largest.{largest, fitting}
 use Rattle.sets.specs.Tables.{padded}
 use Rattle.run.specs.Protocol.{Protocol}
-use Rattle.run.specs.Run.{delivered, heardFrom, rowHeard, stateAt, codeSaid, codeHeard, rowOf, stateAfter, nextState}
+use Rattle.run.specs.Run.{delivered, heardFrom, stateAt, codeSaid, codeHeard, rowOf, stateAfter, nextState}
 use Rattle.run.specs.Report.{sentBy, messagesOf}
 use Rattle.delivery.specs.Delivery.{Delivers}
 use Rattle.execution.specs.Rounds.{noMembers, Opens, HearsRows, PlaysRound}
+
+-- the row of process i, of n processes that say these codes
+abbrev pub rowHeard : List ℕ → List ℕ → ℕ → (ℕ → ℕ) → ℕ → ℕ → List ℕ
+rowHeard crashes reaches r code n i = tabulate n (heardFrom crashes reaches r code i)
 
 -- what a padded table holds
 pub code-at : (n : ℕ) (f : ℕ → ℕ) {codes : List ℕ} → codes ≡ padded n f → (j : ℕ) → j < n → getD codes j 0 ≡ f j

@@ -1,16 +1,13 @@
--- Arrays that a loop fills: none of the entries yet, one more, and all of them, with blanks after them; and the list that they then make. Assumes
--- nothing.
+-- Arrays that a loop fills: none of the entries yet, one more, and all of them; and the list that they then make. Assumes nothing.
 use mathlib.Core.Path.{_≡_, sym, _∙_, subst}
-use mathlib.Core.Logic.{inl, inr}
 use mathlib.Core.List.{List}
 use Prim.Native.Nat.{ℕ, _+_, _≤_, _<_}
 use native.Mathlib.Omega.{arith}
 use borrow.Author.Count.{below-more}
-use lib.ListN.{length, getD, take, set, replicate, length-set, length-replicate, getD-replicate, List·getD-eq-default}
+use lib.ListN.{length, getD, take, set, length-set}
 use lib.Seq.{getD-set-same, getD-set-other, getD-take, length-take-le, ext-getD}
 use Rattle.laws.specs.Below.{tabulate}
-use Rattle.laws.specs.Filled.{Each, Filled, BlankFrom}
-use Rattle.laws.proofs.Counting.{split}
+use Rattle.laws.specs.Filled.{Each, Filled}
 use Rattle.laws.proofs.Lists.{length-tabulate, getD-tabulate}
 
 module _ {A : Type 0} {d : A} {size : ℕ} {xs : List A} where
@@ -49,24 +46,3 @@ module _ {A : Type 0} {d : A} {size : ℕ} {xs : List A} where
     pub filled-list : length xs ≡ n → Filled d size n xs f → xs ≡ tabulate n f
     filled-list e h =
         ext-getD d xs (tabulate n f) (e ∙ sym (length-tabulate n f)) (λ i b. h .at i (omega arith) ∙ sym (getD-tabulate n f i d (omega arith)))
-
--- Arrays that have nothing but blanks from some place on.
-module _ {A : Type 0} {d : A} where
-  pub blank-all : (size n : ℕ) → BlankFrom d n (replicate size d)
-  blank-all size n =
-      let long = length-replicate size d in
-      record {
-        blank = λ k b. elim (split size k) [
-          | inl a ↦ List·getD-eq-default (replicate size d) d (omega arith)
-          | inr a ↦ getD-replicate size k d d a
-        ];
-      }
-
-  -- what is stored below n leaves the places from n on as they are
-  pub blank-stays : {n i : ℕ} {xs : List A} (x : A) → i < n → BlankFrom d n xs → BlankFrom d n (set xs i x)
-  blank-stays {i = i} {xs} x l h = record { blank = λ k b. getD-set-other xs i k x d (omega arith) ∙ h .blank k b }
-
-  -- where the function has them too, the whole array is the list of its values
-  pub filled-whole : {size n : ℕ} {xs : List A} {f : ℕ → A} → Filled d size n xs f → BlankFrom d n xs → ((k : ℕ) → n ≤ k → f k ≡ d) → xs ≡ tabulate size f
-  filled-whole {n = n} h rest past =
-      filled-list {d = d} (h .long) (record { long = h .long; at = λ k b. elim (split n k) [ inl a ↦ rest .blank k a ∙ sym (past k a) | inr a ↦ h .at k a ] })

@@ -1,5 +1,5 @@
--- Arrays of which the first entries are known, and those after them.
-use Prim.Native.Nat.{ℕ, _≤_, _<_}
+-- Arrays of which the first entries are known, or were written over.
+use Prim.Native.Nat.{ℕ, _<_}
 use mathlib.Core.Path.{_≡_}
 use mathlib.Core.List.{List, _++_}
 use lib.ListN.{length, getD, drop}
@@ -13,10 +13,6 @@ pub record Each {A : Type 0} (d : A) (size n : ℕ) (xs : List A) (R : ℕ → A
 -- the first n entries are f 0, f 1, .., f (n - 1)
 abbrev pub Filled : {A : Type 0} → A → ℕ → ℕ → List A → (ℕ → A) → Type 0
 Filled {A} d size n xs f = Each d size n xs (λ (k : ℕ) (x : A). x ≡ f k)
-
--- from place n on there is nothing but d
-pub record BlankFrom {A : Type 0} (d : A) (n : ℕ) (xs : List A) : Type 0 where
-  pub blank : (k : ℕ) → n ≤ k → getD xs k d ≡ d
 
 -- a list has become another one: f 0, f 1, .., f (n - 1) are its first n entries now, and the others are as they were
 pub record Overwritten {A : Type 0} (n : ℕ) (f : ℕ → A) (before after : List A) : Type 0 where

@@ -12,9 +12,8 @@ use Rattle.laws.proofs.Test.{true-or-false}
 use Rattle.laws.proofs.Lists.{tabulate-same}
 use Rattle.laws.proofs.Sums.{sum-same}
 use Rattle.member.specs.declared.Member.{Member}
-use Rattle.member.specs.Saying.{nothing}
 use Rattle.schedule.specs.Schedule.{Schedule, voteOf, crashOf, reachOf}
-use Rattle.run.specs.Protocol.{Protocol, nobody, byCalls}
+use Rattle.run.specs.Protocol.{Protocol, byCalls}
 use Rattle.run.specs.Run.{delivered, completes, stateAt, codeSaid, codeHeard, rowOf, stateAfter, nextState, played, opened, statesAfter, after}
 use Rattle.run.specs.Report.{sentBy, messagesOf, sentAfter}
 use Rattle.run.specs.Facts.{NoneRefused, OwnAnswers}
@@ -26,7 +25,7 @@ module _ (P : Protocol) (limit : ℕ) (s : Schedule) (none : NoneRefused P limit
 
   opened-same : opened Q s ≡ opened P s
   unfolding opened
-  opened-same = tabulate-same (s .n) _ _ (λ i l. place-given _ (P .opening (s .n) (s .t) (i + 1) (voteOf s i)) nobody (none .opens i l))
+  opened-same = tabulate-same (s .n) _ _ (λ i l. place-given _ (P .opening (s .n) (s .t) (i + 1) (voteOf s i)) _ (none .opens i l))
 
   module _ (r : ℕ) (rt : r ≤ s .t + 1) where
     abbrev states : List Member
@@ -34,7 +33,7 @@ module _ (P : Protocol) (limit : ℕ) (s : Schedule) (none : NoneRefused P limit
 
     said-same : (j : ℕ) → j < s .n → codeSaid Q states j ≡ codeSaid P states j
     unfolding after
-    said-same j l = place-given _ (P .says (stateAt states j)) nothing (none .says r j rt l)
+    said-same j l = place-given _ (P .says (stateAt states j)) _ (none .says r j rt l)
 
     row-same : (i : ℕ) → rowOf Q s (suc r) states i ≡ rowOf P s (suc r) states i
     unfolding rowOf codeHeard
@@ -49,7 +48,7 @@ module _ (P : Protocol) (limit : ℕ) (s : Schedule) (none : NoneRefused P limit
 
     heard-same : completes s (suc r) i ≡ true → P .stopped m ≡ false → Q .hears m row ≡ P .hears m row
     unfolding after
-    heard-same c e = place-given _ (P .hears m row) m (none .hears r i rt (record { process = l; completed = c }) e)
+    heard-same c e = place-given _ (P .hears m row) _ (none .hears r i rt (record { process = l; completed = c }) e)
 
     after-same : stateAfter Q (suc r) (crashOf s i) m row ≡ stateAfter P (suc r) (crashOf s i) m row
     after-same =

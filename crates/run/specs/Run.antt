@@ -8,7 +8,7 @@ use Rattle.laws.specs.Below.{tabulate}
 use Rattle.member.specs.declared.Member.{Member}
 use Rattle.member.specs.Saying.{nothing}
 use Rattle.sets.specs.Sets.{names}
-use Rattle.schedule.specs.Schedule.{Schedule, voteOf, crashOf, reachOf}
+use Rattle.schedule.specs.Schedule.{Schedule, voteOf, crashOf}
 use Rattle.run.specs.Protocol.{Protocol, nobody}
 
 -- "In round r a process with crash round c = 0 or c > r completes the round."
@@ -28,15 +28,9 @@ delivered r i c reach code = cond (isHeard r i c reach) code nothing
 abbrev pub completes : Schedule → ℕ → ℕ → Bool
 completes s r i = completesRound r (crashOf s i)
 
--- Of n processes whose crash rounds and reaches stand in these tables, round r, in which the process at place j says `code j`.
-module _ (crashes reaches : List ℕ) (r : ℕ) (code : ℕ → ℕ) where
-  -- what process i hears from j
-  abbrev pub heardFrom : ℕ → ℕ → ℕ
-  heardFrom i j = delivered r i (getD crashes j 0) (getD reaches j 0) (code j)
-
-  -- the row of codes that process i hears
-  abbrev pub rowHeard : ℕ → ℕ → List ℕ
-  rowHeard n i = tabulate n (heardFrom i)
+-- Of processes whose crash rounds and reaches stand in these tables, in round r, in which the process at place j says `code j`: what i hears from j.
+abbrev pub heardFrom : List ℕ → List ℕ → ℕ → (ℕ → ℕ) → ℕ → ℕ → ℕ
+heardFrom crashes reaches r code i j = delivered r i (getD crashes j 0) (getD reaches j 0) (code j)
 
 -- the state at place i of the states side by side; every place below n holds one
 abbrev pub stateAt : List Member → ℕ → Member

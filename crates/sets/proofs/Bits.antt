@@ -12,7 +12,7 @@ use lib.Count.{ones, ones-step}
 use lib.Dec.{eqb}
 use lib.Pow as Pow
 use borrow.Author.Count.{below-none}
-use borrow.Author.Tests.{eqb-true, eqb-false, eq-eqb, lt-ltb, le-ltb}
+use borrow.Author.Tests.{eqb-true, eqb-false, lt-ltb, le-ltb}
 use Rattle.laws.specs.Below.{bit, count, sum}
 use Rattle.laws.proofs.Test.{true-or-false}
 use Rattle.laws.proofs.Counting.{below-or-top, count-first, count-same}

@@ -1,13 +1,12 @@
 -- `deliver` meets its contract: every row starts as the codes of those that complete the round, and each turn looks at one sender (Heard.antt), whose
 -- messages are counted (Sent.antt). Assumes nothing.
 use Prim.Native.Nat.{_+_, _-_, _*_, _≤_}
-use mathlib.Core.Path.{_≡_, refl, ap, _∙_}
+use mathlib.Core.Path.{_≡_}
 use native.Mathlib.Nat.{le-trans, le-of-eq}
 use native.Mathlib.Omega.{arith}
 use borrow.Author.Needs.{needs}
 use denote.Ref.{now}
 use Rattle.laws.specs.Below.{sum}
-use Rattle.laws.proofs.Below.{sum-start, sum-step}
 use Rattle.sets.specs.Largest.{largest, fitting}
 use Rattle.delivery.proofs.Heard.{RowsSoFar, rows-start, entered-at, rows-more, rows-end}
 use Rattle.delivery.proofs.Sent.{completing-few, crashing-low, crashingAdds, so-far-start, so-far-more, all-sent, sent-low}

@@ -1,12 +1,12 @@
 -- `completing_row` meets its contract: each turn enters one sender. Assumes nothing.
-use Prim.Native.Nat.{ℕ, _-_, _≤_}
+use Prim.Native.Nat.{_-_, _≤_}
 use mathlib.Core.Bool.{cond}
-use mathlib.Core.Path.{_≡_, ap, _∙_}
+use mathlib.Core.Path.{_≡_, _∙_}
 use native.Mathlib.Omega.{arith}
 use borrow.Author.Needs.{needs}
-use lib.ListN.{length, getD, replicate}
+use lib.ListN.{getD, replicate}
 use Rattle.laws.specs.Filled.{Overwritten}
-use Rattle.laws.proofs.Overwritten.{over-start, over-more, over-long, over-all}
+use Rattle.laws.proofs.Overwritten.{over-start, over-more, over-all}
 use Rattle.sets.specs.Largest.{largest}
 use Rattle.member.specs.Saying.{nothing}
 use Rattle.run.specs.Run.{completesRound}

@@ -3,7 +3,7 @@ use Prim.Native.Nat.{_-_, _≤_}
 use mathlib.Core.Path.{_≡_}
 use native.Mathlib.Omega.{arith}
 use borrow.Author.Needs.{needs}
-use lib.ListN.{replicate, length-replicate}
+use lib.ListN.{replicate}
 use Rattle.sets.specs.Largest.{largest, fitting}
 use Rattle.laws.specs.Filled.{Overwritten}
 use Rattle.laws.proofs.Overwritten.{over-start, over-more, over-all}
