@@ -9,16 +9,16 @@ use native.Mathlib.Nat.{le-trans, le-of-eq, mul-le-mul, mul-one, mul-zero}
 use native.Mathlib.Omega.{arith}
 use lib.Count.{ones, ones-le}
 use lib.Dec.{eqb}
-use lib.ListN.{getD, replicate, length-replicate, getD-replicate, List·getD-eq-default}
+use lib.ListN.{getD}
 use borrow.Author.Tests.{eqb-true, eqb-false, ne-eqb}
 use Rattle.laws.specs.Below.{sum, bit, count}
 use Rattle.laws.proofs.Below.{sum-start, sum-step, count-high}
 use Rattle.laws.proofs.Test.{true-or-false, cond-true, cond-false}
-use Rattle.laws.proofs.Counting.{split, count-same}
+use Rattle.laws.proofs.Counting.{count-same}
 use Rattle.laws.proofs.Sums.{sum-same, sum-high, sum-parts, count-ends}
-use Rattle.laws.proofs.Overwritten.{over-at, over-past}
 use Rattle.sets.specs.Largest.{largest}
 use Rattle.sets.specs.Tables.{padded}
+use Rattle.sets.proofs.Theorem.{table-facts}
 use Rattle.member.specs.Saying.{nothing}
 use Rattle.run.specs.Run.{completesRound}
 use Rattle.run.specs.Report.{sentBy, messagesOf}
@@ -113,18 +113,14 @@ module _ (r c reach code : ℕ) where
   pub reach-added : code ≢ nothing → c ≢ 0 → c ≡ r → ones reach ≡ sentBy 0 r c reach code
   reach-added some crashes now = sym (sends-to-reach 0 r c reach code some (crashing-now r c crashes now) now)
 
-zero-at : (width j : ℕ) → _≡_ {A = ℕ} (getD (replicate width 0) j 0) 0
-zero-at width j =
-    let long = length-replicate {A = ℕ} width 0 in
-    elim (split width j) [ inl a ↦ List·getD-eq-default (replicate width 0) 0 (omega arith) | inr a ↦ getD-replicate width j 0 0 a ]
-
 -- how many speak, of a row of n codes with zeros after them
 speakers-are : (n : ℕ) (f : ℕ → ℕ) {row : List ℕ} → n ≤ largest → row ≡ padded n f
     → count largest (λ j. not (eqb (getD row j 0) nothing)) ≡ count n (λ j. not (eqb (f j) nothing))
 speakers-are n f {row} small e =
-    count-ends largest n (λ j. not (eqb (getD row j 0) nothing)) small
-    (λ j past. ap (λ (x : ℕ). not (eqb x nothing)) (over-past {f = f} {xs = replicate largest 0} (record { is = e }) j 0 past ∙ zero-at largest j))
-    ∙ count-same n _ _ (λ j l. ap (λ (x : ℕ). not (eqb x nothing)) (over-at {f = f} {xs = replicate largest 0} (record { is = e }) j 0 l))
+    let facts = table-facts n f in
+    ap (λ (codes : List ℕ). count largest (λ j. not (eqb (getD codes j 0) nothing))) e
+    ∙ count-ends largest n (λ j. not (eqb (getD (padded n f) j 0) nothing)) small (λ j past. ap (λ (x : ℕ). not (eqb x nothing)) (facts .zeros j past))
+    ∙ count-same n _ _ (λ j l. ap (λ (x : ℕ). not (eqb x nothing)) (facts .given j l))
 
 pub completing-few : (size : ℕ) {speaking : ℕ} (p : ℕ → Bool) → size ≤ largest → speaking ≡ count largest p → size * speaking ≤ largest * largest
 completing-few size p small e = mul-le-mul small (le-trans (le-of-eq e) (count-high largest p))

@@ -13,6 +13,7 @@ use Rattle.laws.proofs.Overwritten.{over-at, over-so, over-all}
 use Rattle.member.specs.declared.Member.{Member}
 use Rattle.sets.specs.Largest.{largest, fitting}
 use Rattle.sets.specs.Tables.{padded}
+use Rattle.sets.proofs.Theorem.{table-facts}
 use Rattle.run.specs.Protocol.{Protocol}
 use Rattle.run.specs.Run.{delivered, heardFrom, stateAt, codeSaid, codeHeard, rowOf, stateAfter, nextState}
 use Rattle.run.specs.Report.{sentBy, messagesOf}
@@ -23,9 +24,9 @@ use Rattle.execution.specs.Rounds.{noMembers, Opens, HearsRows, PlaysRou
 abbrev pub rowHeard : List ℕ → List ℕ → ℕ → (ℕ → ℕ) → ℕ → ℕ → List ℕ
 rowHeard crashes reaches r code n i = tabulate n (heardFrom crashes reaches r code i)
 
--- what a padded table holds
+-- what a padded table of codes holds
 pub code-at : (n : ℕ) (f : ℕ → ℕ) {codes : List ℕ} → codes ≡ padded n f → (j : ℕ) → j < n → getD codes j 0 ≡ f j
-code-at n f e j l = over-at {f = f} {xs = replicate largest 0} (record { is = e }) j 0 l
+code-at n f e j l = ap (λ (codes : List ℕ). getD codes j 0) e ∙ table-facts n f .given j l
 
 front-padded : (n : ℕ) (f : ℕ → ℕ) → take n (padded n f) ≡ tabulate n f
 front-padded n f = take-at (tabulate n f) (drop n (replicate largest 0)) n (length-tabulate n f)

@@ -1,6 +1,15 @@
--- All that is promised of sets of processes, for every n. Assumes nothing.
+-- All that is promised of sets of processes, for every n, and of tables that are padded with zeros. Assumes nothing.
+use mathlib.Core.Path.{_≡_, refl, _∙_}
+use mathlib.Core.Logic.{inl, inr}
 use Prim.Native.Nat.{ℕ}
-use Rattle.sets.specs.Facts.{SetFacts}
+use native.Mathlib.Omega.{arith}
+use lib.ListN.{getD, replicate, length-replicate, getD-replicate, List·getD-eq-default}
+use Rattle.laws.specs.Filled.{Overwritten}
+use Rattle.laws.proofs.Counting.{split}
+use Rattle.laws.proofs.Overwritten.{over-at, over-past, over-long}
+use Rattle.sets.specs.Largest.{largest}
+use Rattle.sets.specs.Tables.{padded}
+use Rattle.sets.specs.Facts.{SetFacts, TableFacts}
 use Rattle.sets.proofs.Bits.{ones-named, names-nobody, set-bits, set-below, of-its-bits}
 
 pub set-facts : (n : ℕ) → SetFacts n
@@ -11,3 +20,18 @@ set-facts n = record {
   below = λ digit. set-below digit n;
   of-its-bits = of-its-bits n;
 }
+
+zero-at : (width k : ℕ) → _≡_ {A = ℕ} (getD (replicate width 0) k 0) 0
+zero-at width k =
+    let long = length-replicate {A = ℕ} width 0 in
+    elim (split width k) [ inl a ↦ List·getD-eq-default (replicate width 0) 0 (omega arith) | inr a ↦ getD-replicate width k 0 0 a ]
+
+pub table-facts : (n : ℕ) (f : ℕ → ℕ) → TableFacts n f
+table-facts n f =
+    let h : Overwritten n f (replicate largest 0) (padded n f) = record { is = refl } in
+    let long = length-replicate {A = ℕ} largest 0 in
+    record {
+      long = λ small. over-long h (omega arith) ∙ long;
+      given = λ k l. over-at h k 0 l;
+      zeros = λ k past. over-past h k 0 past ∙ zero-at largest k;
+    }

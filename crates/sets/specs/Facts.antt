@@ -4,7 +4,10 @@ use Prim.Native.Nat.{ℕ, _^_, _≤_, _<_}
 use mathlib.Core.Path.{_≡_}
 use mathlib.Core.Bool.{false}
 use lib.Count.{ones}
+use lib.ListN.{length, getD}
 use Rattle.laws.specs.Below.{bit, count}
+use Rattle.sets.specs.Largest.{largest}
+use Rattle.sets.specs.Tables.{padded}
 use Rattle.sets.specs.Sets.{names, setOf}
 
 pub record SetFacts (n : ℕ) : Type 0 where
@@ -16,3 +19,10 @@ pub record SetFacts (n : ℕ) : Type 0 where
   pub bits : (digit : ℕ → ℕ) → ((j : ℕ) → j < n → digit j ≤ 1) → (j : ℕ) → j < n → bit (names (setOf n digit) j) ≡ digit j
   pub below : (digit : ℕ → ℕ) → ((j : ℕ) → j < n → digit j ≤ 1) → setOf n digit < 2 ^ n
   pub of-its-bits : (set : ℕ) → set < 2 ^ n → setOf n (λ j. bit (names set j)) ≡ set
+
+-- What a table holds that is padded with zeros: the values that it was given, and zeros from place n on. Proved in proofs/Theorem.antt:
+-- `table-facts : (n : ℕ) (f : ℕ → ℕ) → TableFacts n f`.
+pub record TableFacts (n : ℕ) (f : ℕ → ℕ) : Type 0 where
+  pub long : n ≤ largest → length (padded n f) ≡ largest
+  pub given : (k : ℕ) → k < n → getD (padded n f) k 0 ≡ f k
+  pub zeros : (k : ℕ) → n ≤ k → getD (padded n f) k 0 ≡ 0
