@@ -59,8 +59,12 @@ module _ (P : Protocol) (n r : ℕ) (codes crashes reaches : List ℕ) (members 
   plays-round sent h =
       record {
         states = over-so (hears-codes P n r (λ j. getD codes j 0) crashes reaches sent h) (λ i l. ap (stateAfter P r (getD crashes i 0) (stateAt members i)) (row-same i));
-        counted = sent .counted ∙ sent-same;
-        rows = over-so (sent .rows) (λ i l. ap (λ (row : List ℕ). row ++ drop n (replicate largest 0)) (row-same i));
+        sent =
+            record {
+              rows = over-so (sent .rows) (λ i l. ap (λ (row : List ℕ). row ++ drop n (replicate largest 0)) (row-same i));
+              counted = sent .counted ∙ sent-same;
+              few = sent .few;
+            };
       }
 
 -- the loop that opens the members is at its end

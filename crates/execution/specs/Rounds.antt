@@ -1,16 +1,14 @@
 -- One round of all members, which stand side by side in an array as long as the largest cluster.
 use Prim.Native.Nat.{ℕ, _+_}
-use mathlib.Core.Path.{_≡_}
 use mathlib.Core.List.{List, []}
 use lib.ListN.{getD, take, replicate}
 use Rattle.laws.specs.Filled.{Overwritten}
 use Rattle.sets.specs.Largest.{largest}
-use Rattle.sets.specs.Tables.{padded}
 use Rattle.member.specs.declared.Member.{Member}
 use Rattle.schedule.specs.Schedule.{Schedule, scheduleOf}
 use Rattle.run.specs.Protocol.{Protocol, nobody}
-use Rattle.run.specs.Run.{heardFrom, stateAt, codeSaid, stateAfter, nextState}
-use Rattle.run.specs.Report.{messagesOf}
+use Rattle.run.specs.Run.{stateAt, codeSaid, stateAfter, nextState}
+use Rattle.delivery.specs.Delivery.{Delivers}
 
 -- an array in which no member stands
 abbrev pub noMembers : List Member
@@ -31,10 +29,8 @@ module _ (P : Protocol) (n : ℕ) where
   HearsRows round members crashes grid next =
       Overwritten n (λ i. stateAfter P round (getD crashes i 0) (stateAt members i) (take n (getD grid i []))) members next
 
-  -- A round of the codes that the members say: the states after it, its messages, and its rows in the grid, each with zeros after its codes; the
-  -- other rows of the grid are as they were.
+  -- A round of the codes that the members say: the states after it, and what is delivered in it, the rows in the grid and the messages.
   pub record PlaysRound (round : ℕ) (members : List Member) (crashes reaches : List ℕ) (grid : List (List ℕ)) (next : List Member) (messages : ℕ) (gridNow : List (List ℕ))
       : Type 0 where
     pub states : Overwritten n (nextState P (crashSchedule n crashes reaches) round members) members next
-    pub counted : messages ≡ messagesOf crashes reaches round (codeSaid P members) n
-    pub rows : Overwritten n (λ i. padded n (heardFrom crashes reaches round (codeSaid P members) i)) grid gridNow
+    pub sent : Delivers n round (codeSaid P members) crashes reaches grid messages gridNow

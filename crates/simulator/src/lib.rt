@@ -25,8 +25,8 @@ pub enum Simulated {
 }
 
 // The run of the schedule of these tables to its end: no run has more rounds than the largest cluster has
-// processes. `decisions` and `rounds` get the decision of each process, 2
-// for none, and its round, 0 for none. A refused call leaves both as they were lent.
+// processes. `decisions` and `rounds` get the decision of each process, 2 for none, and its round, 0 for
+// none. A refused call leaves both as they were lent.
 pub fn simulate(
     n: usize,
     t: usize,
