@@ -1,10 +1,13 @@
 -- What the parts of a reading answer, and what they leave in the tables. Only this crate's own functions cite it.
 use Prim.Native.Nat.{ℕ}
-use mathlib.Core.List.{List}
+use mathlib.Core.Path.{_≡_}
+use mathlib.Core.List.{List, _++_}
+use lib.ListN.{take, drop}
 use Rattle.laws.specs.Answer.{Answer, accepted, refused}
 use Rattle.laws.specs.Filled.{Filled}
 use Rattle.sets.specs.Largest.{largest}
-use Rattle.text.specs.Reading.{entryIn}
+use Rattle.text.specs.Reading.{entryIn, scheduleIn, restQuestions}
+use Rattle.reader.specs.Answers.{givenOr, filled}
 use Rattle.reader.specs.declared.Asked.{Asked}
 use Rattle.reader.specs.declared.Asked.the-variants.{Passed, Refused}
 
@@ -21,3 +24,16 @@ abbrev pub EntriesRead : Asked → List ℕ → ℕ → List ℕ → List ℕ �
 EntriesRead (Refused number line) text n votes crashes reaches = Unit {0}
 EntriesRead Passed text n votes crashes reaches =
     Table n votes (λ i. entryIn text i .vote) × Table n crashes (λ i. entryIn text i .crash) × Table n reaches (λ i. entryIn text i .reach)
+
+-- What is read after line 3: the answer, and each table after it, filled or as it was lent.
+pub record ReadsRest (text votes crashes reaches : List ℕ) (r : Asked) (votesNow crashesNow reachesNow : List ℕ) : Type 0 where
+  pub asked : askedIs r ≡ restQuestions text
+  pub votes-read : votesNow ≡ givenOr (restQuestions text) (filled (scheduleIn text .votes) votes) votes
+  pub crashes-read : crashesNow ≡ givenOr (restQuestions text) (filled (scheduleIn text .crashes) crashes) crashes
+  pub reaches-read : reachesNow ≡ givenOr (restQuestions text) (filled (scheduleIn text .reaches) reaches) reaches
+
+-- Three lent tables after their first n entries were filled with those of three others, and the other entries left.
+pub record Fills (n : ℕ) (voted crashed reached votes crashes reaches votesNow crashesNow reachesNow : List ℕ) : Type 0 where
+  pub votes-filled : votesNow ≡ take n voted ++ drop n votes
+  pub crashes-filled : crashesNow ≡ take n crashed ++ drop n crashes
+  pub reaches-filled : reachesNow ≡ take n reached ++ drop n reaches

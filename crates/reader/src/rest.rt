@@ -3,9 +3,8 @@ ghost use mathlib.Core.Path.{_≡_};
 ghost use Prim.Native.Nat.{_≤_};
 ghost use lib.ListN.{length};
 ghost use Rattle.sets.specs.Largest.{largest};
-ghost use Rattle.text.specs.Reading.{sizesIn, scheduleIn, restQuestions};
-ghost use Rattle.reader.specs.Answers.{givenOr, filled};
-ghost use Rattle.reader.specs.Parts.{askedIs};
+ghost use Rattle.text.specs.Reading.{sizesIn};
+ghost use Rattle.reader.specs.Parts.{ReadsRest};
 use crate::Asked;
 use crate::parts::read_processes;
 use crate::parts::read_tail;
@@ -26,10 +25,7 @@ pub fn read_rest(
 ) -> Asked
     requires sizes { ⌜ (n ≤ largest) × (sizesIn (now text) .n ≡ n) × (sizesIn (now text) .t ≡ t) ⌝ }
     requires long { ⌜ (length (now votes) ≡ largest) × (length (now crashes) ≡ largest) × (length (now reaches) ≡ largest) ⌝ }
-    ensures asked { λ r. ⌜ askedIs r ≡ restQuestions (now (text .entry)) ⌝ }
-    ensures votes_read { λ r. ⌜ now (votes .exit) ≡ givenOr (restQuestions (now (text .entry))) (filled (scheduleIn (now (text .entry)) .votes) (now (votes .entry))) (now (votes .entry)) ⌝ }
-    ensures crashes_read { λ r. ⌜ now (crashes .exit) ≡ givenOr (restQuestions (now (text .entry))) (filled (scheduleIn (now (text .entry)) .crashes) (now (crashes .entry))) (now (crashes .entry)) ⌝ }
-    ensures reaches_read { λ r. ⌜ now (reaches .exit) ≡ givenOr (restQuestions (now (text .entry))) (filled (scheduleIn (now (text .entry)) .reaches) (now (reaches .entry))) (now (reaches .entry)) ⌝ }
+    ensures read { λ r. ⌜ ReadsRest (now (text .entry)) (now (votes .entry)) (now (crashes .entry)) (now (reaches .entry)) r (now (votes .exit)) (now (crashes .exit)) (now (reaches .exit)) ⌝ }
 {
     let mut own_votes = zero_bytes();
     let mut own_crashes = zero_bytes();

@@ -1,9 +1,9 @@
 // The three tables that are lent to the reader, with an entry for each process of the largest cluster.
 ghost use mathlib.Core.Path.{_≡_};
-ghost use mathlib.Core.List.{_++_};
 ghost use Prim.Native.Nat.{_≤_};
-ghost use lib.ListN.{length, take, drop};
+ghost use lib.ListN.{length};
 ghost use Rattle.sets.specs.Largest.{largest};
+ghost use Rattle.reader.specs.Parts.{Fills};
 use sets::Set;
 use sets::WIDTH;
 
@@ -19,9 +19,7 @@ pub fn fill(
 )
     requires size { ⌜ n ≤ largest ⌝ }
     requires long { ⌜ (length (now votes) ≡ largest) × (length (now crashes) ≡ largest) × (length (now reaches) ≡ largest) ⌝ }
-    ensures votes_filled { λ _. ⌜ now (votes .exit) ≡ take n voted ++ drop n (now (votes .entry)) ⌝ }
-    ensures crashes_filled { λ _. ⌜ now (crashes .exit) ≡ take n crashed ++ drop n (now (crashes .entry)) ⌝ }
-    ensures reaches_filled { λ _. ⌜ now (reaches .exit) ≡ take n reached ++ drop n (now (reaches .entry)) ⌝ }
+    ensures filled { λ _. ⌜ Fills n voted crashed reached (now (votes .entry)) (now (crashes .entry)) (now (reaches .entry)) (now (votes .exit)) (now (crashes .exit)) (now (reaches .exit)) ⌝ }
 {
     let mut i: usize = 0;
     while i < n {

@@ -91,7 +91,7 @@ same-length-3 c = search needs
 
 -- what the rest answers is answered, and the tables are as it left them
 answered-by-rest : (c : tie.After-read-rest) → let a = c .before .before .before .before .before .before .before .before .before .before .before .before .before .before .args in askedIs (c .read-rest .result) ≡ readQuestions largest longest (a .text .now) (a .votes .now) (a .crashes .now) (a .reaches .now)
-answered-by-rest c = c .read-rest .ensures .0 ∙ sym (passed-head (c .before .before .before .before .before) .0)
+answered-by-rest c = c .read-rest .ensures .asked ∙ sym (passed-head (c .before .before .before .before .before) .0)
 
 returns-3 : tie.Need-returns-3
 returns-3 c =
@@ -100,9 +100,9 @@ returns-3 c =
     let e = sym (answered-by-rest r) ∙ ap askedIs (c .before .number2 .given .1) in
     record {
       answered = read-refused _ _ _ _ _ _ e;
-      votes-read = r .read-rest .ensures .1 .0 ∙ table-read _ _ _ _ _ _ p _ _;
-      crashes-read = r .read-rest .ensures .1 .1 .0 ∙ table-read _ _ _ _ _ _ p _ _;
-      reaches-read = r .read-rest .ensures .1 .1 .1 ∙ table-read _ _ _ _ _ _ p _ _;
+      votes-read = r .read-rest .ensures .votes-read ∙ table-read _ _ _ _ _ _ p _ _;
+      crashes-read = r .read-rest .ensures .crashes-read ∙ table-read _ _ _ _ _ _ p _ _;
+      reaches-read = r .read-rest .ensures .reaches-read ∙ table-read _ _ _ _ _ _ p _ _;
     }
 
 same-length-4 : tie.Need-same-length-4
@@ -122,9 +122,9 @@ returns-4 c =
     let e = sym (answered-by-rest r) ∙ ap askedIs (c .enum-told .given .1) in
     record {
       answered = ap accepted (sym (h .1)) ∙ read-accepted _ _ _ _ _ _ e;
-      votes-read = r .read-rest .ensures .1 .0 ∙ table-read _ _ _ _ _ _ p _ _;
-      crashes-read = r .read-rest .ensures .1 .1 .0 ∙ table-read _ _ _ _ _ _ p _ _;
-      reaches-read = r .read-rest .ensures .1 .1 .1 ∙ table-read _ _ _ _ _ _ p _ _;
+      votes-read = r .read-rest .ensures .votes-read ∙ table-read _ _ _ _ _ _ p _ _;
+      crashes-read = r .read-rest .ensures .crashes-read ∙ table-read _ _ _ _ _ _ p _ _;
+      reaches-read = r .read-rest .ensures .reaches-read ∙ table-read _ _ _ _ _ _ p _ _;
     }
 
 pub read-spec : {M : Type 1} → statement M

@@ -47,7 +47,7 @@ returns c =
     let pre = p .before .before .before .before .before .before .before .before .before .before .before .pre in
     let told = ap askedIs (c .enum-told2 .given .1) in
     let e = lines-refuse (a .text .now) (a .n) (a .t) (pre .0 .1) (pre .0 .2) (sym (p .read-processes .ensures .0) ∙ told) in
-    (told ∙ sym e, (keeps _ _ e, (keeps _ _ e, keeps _ _ e)))
+    record { asked = told ∙ sym e; votes-read = keeps _ _ e; crashes-read = keeps _ _ e; reaches-read = keeps _ _ e }
 
 array-share-prefix-own-crashes : tie.Need-array-share-prefix-own-crashes
 array-share-prefix-own-crashes c = search needs
@@ -92,7 +92,7 @@ returns-2 : tie.Need-returns-2
 returns-2 c =
     let told = ap askedIs (c .enum-told4 .given .1) in
     let e = sym (tail-asked (c .before .before)) ∙ told in
-    (told ∙ sym e, (keeps _ _ e, (keeps _ _ e, keeps _ _ e)))
+    record { asked = told ∙ sym e; votes-read = keeps _ _ e; crashes-read = keeps _ _ e; reaches-read = keeps _ _ e }
 
 fill-requires : tie.Need-fill-requires
 fill-requires c κs = search needs
@@ -120,13 +120,13 @@ returns-3 c =
     let reaches = read-reaches (a .text .now) (a .n) (a .t) (pre .0 .1) (pre .0 .2) _ (pre .0 .0) (tables .2) in
     let votes-long = tables .0 .long in
     let crashes-long = tables .1 .long in
-    let reaches-long = tables .2 .long in (
-      sym e,
-      (
-        f .fill .ensures .0 ∙ filled-with (a .n) _ _ _ (omega arith) votes ∙ gives _ _ e,
-        (f .fill .ensures .1 .0 ∙ filled-with (a .n) _ _ _ (omega arith) crashes ∙ gives _ _ e, f .fill .ensures .1 .1 ∙ filled-with (a .n) _ _ _ (omega arith) reaches ∙ gives _ _ e),
-      ),
-    )
+    let reaches-long = tables .2 .long in
+    record {
+      asked = sym e;
+      votes-read = f .fill .ensures .votes-filled ∙ filled-with (a .n) _ _ _ (omega arith) votes ∙ gives _ _ e;
+      crashes-read = f .fill .ensures .crashes-filled ∙ filled-with (a .n) _ _ _ (omega arith) crashes ∙ gives _ _ e;
+      reaches-read = f .fill .ensures .reaches-filled ∙ filled-with (a .n) _ _ _ (omega arith) reaches ∙ gives _ _ e;
+    }
 
 pub read-rest-spec : {M : Type 1} → statement M
 read-rest-spec =

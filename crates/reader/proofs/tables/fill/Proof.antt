@@ -85,10 +85,12 @@ returns : tie.Need-returns Inv-loop μ-loop
 returns c =
     let a = c .before .before .args in
     let loop = c .before .loop in
-    let all : loop .i ≡ a .n = omega arith in (
-      loop .inv .4 ∙ ap (copied (a .t2) (a .votes .now)) all,
-      (loop .inv .5 ∙ ap (copied (a .t3) (a .crashes .now)) all, loop .inv .6 ∙ ap (copied (a .t4) (a .reaches .now)) all),
-    )
+    let all : loop .i ≡ a .n = omega arith in
+    record {
+      votes-filled = loop .inv .4 ∙ ap (copied (a .t2) (a .votes .now)) all;
+      crashes-filled = loop .inv .5 ∙ ap (copied (a .t3) (a .crashes .now)) all;
+      reaches-filled = loop .inv .6 ∙ ap (copied (a .t4) (a .reaches .now)) all;
+    }
 
 pub fill-spec : {M : Type 1} → statement M
 fill-spec =
