@@ -1,7 +1,8 @@
 /*
  * Two uses of the library. First a cluster of four members in one process:
- * they commit, and then, with one vote for abort, they abort. Then the
- * simulator on a schedule with a crash, and on one that is refused.
+ * they commit; with one vote for abort they abort; and they abort where one of
+ * them crashes in round 1. Then the simulator on the same crash, and on a
+ * schedule that is refused.
  */
 #include <stdio.h>
 #include <string.h>
@@ -30,30 +31,52 @@ static int say_all(uint8_t states[N][FCWFA_STATE_BYTES], uint8_t row[N])
     return 1;
 }
 
-/* Lets members with these votes exchange rows, without a crash, until all have stopped. */
-static int play(const uint8_t votes[N])
+/*
+ * Lets members with these votes exchange rows until all have stopped. Member
+ * `crashed` (0 for none) crashes in round 1, and its message of that round
+ * reaches the members of `reach` only.
+ */
+static int play(const uint8_t votes[N], int crashed, fcwfa_set reach)
 {
     uint8_t states[N][FCWFA_STATE_BYTES];
-    uint8_t row[N];
+    uint8_t said[N], row[N];
     const uint8_t silence[N] = {0};
 
     for (int i = 0; i < N; i++) {
         if (fcwfa_open(N, T, (size_t)i + 1, votes[i], states[i]) != FCWFA_OK)
             return 0;
     }
-    for (;;) {
-        if (!say_all(states, row))
+    for (int round = 1;; round++) {
+        if (!say_all(states, said))
             return 0;
-        if (memcmp(row, silence, N) == 0)
+        /* It has crashed: nothing more comes from it. */
+        if (crashed != 0 && round > 1)
+            said[crashed - 1] = FCWFA_NOTHING;
+        if (memcmp(said, silence, N) == 0)
             break;
         for (int i = 0; i < N; i++) {
-            if (row[i] != FCWFA_NOTHING && fcwfa_hear(states[i], row, N) != FCWFA_OK)
+            /* A member that has stopped hears no row, nor does one that has crashed. */
+            if (said[i] == FCWFA_NOTHING || i + 1 == crashed)
+                continue;
+            memcpy(row, said, N);
+            /*
+             * FCWFA_NOTHING stands for a crash here: this member got no message,
+             * and the sender hears no row of this round or a later one. It must
+             * not stand for a message that is late or lost (README.md, (a)).
+             */
+            if (crashed != 0 && round == 1 && (reach & only(i + 1)) == 0)
+                row[crashed - 1] = FCWFA_NOTHING;
+            if (fcwfa_hear(states[i], row, N) != FCWFA_OK)
                 return 0;
         }
     }
-    for (int i = 0; i < N; i++)
-        printf("member %d decides %d in round %d\n", i + 1,
-               states[i][FCWFA_STATE_ESTIMATE], states[i][FCWFA_STATE_DECIDED]);
+    for (int i = 0; i < N; i++) {
+        if (i + 1 == crashed)
+            printf("member %d makes no decision\n", i + 1);
+        else
+            printf("member %d decides %d in round %d\n", i + 1,
+                   states[i][FCWFA_STATE_ESTIMATE], states[i][FCWFA_STATE_DECIDED]);
+    }
     return 1;
 }
 
@@ -91,10 +114,13 @@ int main(void)
     uint8_t state[FCWFA_STATE_BYTES];
 
     puts("four members, all votes 1");
-    if (!play(all_commit))
+    if (!play(all_commit, 0, 0))
         return 1;
     puts("four members, member 3 votes 0");
-    if (!play(one_abort))
+    if (!play(one_abort, 0, 0))
+        return 1;
+    puts("four members, all votes 1, member 1 crashes in round 1 and reaches member 2 only");
+    if (!play(all_commit, 1, only(2)))
         return 1;
     puts("process 1 crashes in round 1 and reaches process 2 only");
     simulate(1, only(2));

@@ -9,9 +9,13 @@
  * was. No function allocates, keeps anything between calls, or fails in
  * another way, and any number of threads may call them.
  *
- * A caller owes this alone: each pointer is not NULL, also where its length is
- * 0, and is good for the number of entries that is said or given with it; and what a
- * function writes overlaps with nothing else that the same call is lent.
+ * For a call to be safe a caller owes this alone: each pointer is not NULL, also
+ * where its length is 0, and is good for the number of entries that is said or
+ * given with it; and what a function writes overlaps with nothing else that the
+ * same call is lent.
+ *
+ * For members to agree the network, the clock and the program that calls them
+ * owe more, and no call can look for it: see "The contract" in README.md.
  */
 #ifndef FCWFA_H
 #define FCWFA_H
@@ -64,8 +68,9 @@ typedef uint32_t fcwfa_set;
 #define FCWFA_REFUSED_BOTH 17
 
 /*
- * A member's state is six bytes, one number in each, at these offsets. Store
- * and send them as they are; there is nothing else to a member.
+ * A member's state is six bytes, one number in each, at these offsets; there is
+ * nothing else to a member. They can be stored and sent as they are, for
+ * inspection: a process that was down has crashed and must not go on from them.
  */
 #define FCWFA_STATE_BYTES 6
 /* The number of processes. */
@@ -81,7 +86,13 @@ typedef uint32_t fcwfa_set;
 /* The round in which the member decided, 0 while it has not. */
 #define FCWFA_STATE_DECIDED 5
 
-/* What a member says in a round, and what stands in a row for each sender. */
+/*
+ * What a member says in a round, and what stands in a row for each sender. In a
+ * row FCWFA_NOTHING says that the process has crashed without completing this
+ * round and takes no further part in this transaction, or that it has stopped.
+ * It never stands for a message that is late or lost: members can then decide
+ * differently, and no call refuses. See (a) in README.md.
+ */
 #define FCWFA_NOTHING 0
 #define FCWFA_ESTIMATE_0 1
 #define FCWFA_ESTIMATE_1 2
@@ -105,9 +116,11 @@ uint8_t fcwfa_say(const uint8_t state[FCWFA_STATE_BYTES], uint8_t *code);
 
 /*
  * Hears the row of a round: one code for each process in order, the member's
- * own included, FCWFA_NOTHING for a process from which nothing came. The state
- * becomes that of the next round.
- * Refusals, in this order: 11, 12, 13, 14, 15, 16, 17.
+ * own included, FCWFA_NOTHING for a process that has crashed or stopped and for
+ * no other. Wait for every other message before this call: see (b) in README.md.
+ * The state becomes that of the next round.
+ * Refusals, in this order: 11, 12, 13, 14, 15, 16, 17. Never repair a row to get
+ * past one; (d) in README.md says what each shows and what is safe then.
  */
 uint8_t fcwfa_hear(uint8_t state[FCWFA_STATE_BYTES], const uint8_t *row,
                    size_t row_length);

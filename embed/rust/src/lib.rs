@@ -3,6 +3,30 @@
 //! The work is done by the proved functions of `libfcwfa_member.a` and `libfcwfa_simulator.a`; this crate only hands them slices. Every call
 //! takes any values. It does its work, or answers a [`Refusal`] and leaves everything it was lent as it was. What the numbers mean is
 //! written in `embed/fcwfa.h`.
+//!
+//! # The contract
+//!
+//! The calls are safe whatever they are given. That members agree is proved for every run in which (a) holds and the calls are made as in
+//! (b), and for no other; whether (a) holds no call can tell. `embed/README.md` has the contract whole; in short:
+//!
+//! **(a) The network and the clock.** Rounds are in lockstep. If a process completes a round (hears its row), its message of that round
+//! arrives in that round, unchanged, at every process that completes it. A process that has not stopped and does not complete a round has
+//! crashed: it takes no further part and never comes back under its number in this transaction. At most t crash. So a 0 in a row says that
+//! the process at that place has crashed without completing this round, or that it said "decided" in an earlier round and has stopped. It
+//! never stands for a message that is late or lost: `tests/outside_the_contract.rs` has a run in which two members then commit and two
+//! abort, and no call is refused.
+//!
+//! **(b) The loop of a round.** [`Member::say`], and leave the loop at 0: the member has stopped. Send the code to all. Wait until the
+//! message of each other process has come, or it is certain that its sender crashed before it completed this round, or it stopped.
+//! [`Member::hear`] the row. A [`Member::decision`] is final; go on with the loop, for the others must hear of it in the next round.
+//!
+//! **(c) A state on disk** is for inspection. Going on from it after a restart is outside of what is promised: that process has crashed.
+//!
+//! **(d) After a refusal** the state is as it was, and a decision that was made before stands. 11 (no state of a member), 12 (it has stopped
+//! and needs no more rows), 13 and 15 (the row was put together wrongly) are the caller's faults, and so is 14 (a code above 4) unless the
+//! byte came so over the wire. That, 16 and 17 show that (a) is broken or a member is faulty; agreement is then not promised for this
+//! transaction. Never invent or repair a row. A member that cannot go on counts as crashed for the rest of the transaction: it sends nothing
+//! more, hears no more rows and does not decide by itself.
 #![warn(missing_docs)]
 
 use std::fmt;
@@ -63,7 +87,8 @@ fn accepted<T>(number: u8, value: T) -> Result<T, Refusal> {
 
 /// A member's state: n, t, own number, the round to play next, the estimate and the decided round, a byte each.
 ///
-/// Any six bytes may stand here, as read from a file, say: the calls refuse a state that is not in range.
+/// Any six bytes may stand here, as read from a file, say: the calls refuse a state that is not in range. A state that is read back is for
+/// inspection: a process that was down has crashed and must not go on from it.
 #[derive(Clone, Copy, Debug, PartialEq, Eq)]
 pub struct Member {
     /// The six bytes, as `embed/fcwfa.h` places them.
@@ -87,7 +112,11 @@ impl Member {
         accepted(number, code)
     }
 
-    /// Hears the row of a round, a code for each process in order. Refusals: 11 to 17; the state is then as it was.
+    /// Hears the row of a round, a code for each process in order, the member's own included. A 0 stands for a process that has crashed
+    /// without completing this round, or has stopped, and for no other: never for a message that is late or lost. See the contract at the
+    /// top of this crate, (a) and (b).
+    ///
+    /// Refusals: 11 to 17; the state is then as it was. Never repair a row to get past one; (d) says what each shows.
     pub fn hear(&mut self, row: &[u8]) -> Result<(), Refusal> {
         // SAFETY: the state's pointer is good for six bytes and the row's for its length, and they do not overlap.
         let number =
