@@ -3,7 +3,7 @@
 use mathlib.Core.Path.{_≡_, sym, ap, _∙_}
 use mathlib.Core.Logic.{_≢_, _⊎_, inl, inr}
 use mathlib.Core.List.{List, [], _++_}
-use mathlib.Core.Bool.{Bool, true, false, cond, _&&_}
+use mathlib.Core.Bool.{Bool, cond, _&&_}
 use Prim.Native.Nat.{ℕ, _+_, _≤_, _<_, zero-le}
 use native.Mathlib.Omega.{arith}
 use lib.Dec.{eqb, ltb}
@@ -22,16 +22,7 @@ use Rattle.sets.specs.Tables.{padded}
 use Rattle.member.specs.Saying.{nothing}
 use Rattle.delivery.specs.Delivery.{Entered}
 use Rattle.run.specs.Run.{completesRound, isHeard, delivered, heardFrom}
-
--- a process that crashes in the round does not complete it
-pub crashing-now : (r c : ℕ) → c ≢ 0 → c ≡ r → completesRound r c ≡ false
-unfolding completesRound
-crashing-now r c some same = or-neither (eqb c 0) (ltb r c) (ne-eqb c 0 some) (le-ltb r c (omega arith))
-
--- and one that never crashes does
-pub always-completing : (r c : ℕ) → c ≡ 0 → completesRound r c ≡ true
-unfolding completesRound
-always-completing r c never = or-left (eqb c 0) (ltb r c) (eq-eqb c 0 never)
+use Rattle.run.proofs.Rounds.{not-completed, completed}
 
 -- What i hears from a process with this crash round, reach and code.
 module _ (r i c reach code : ℕ) where
@@ -40,11 +31,11 @@ module _ (r i c reach code : ℕ) where
   unfolding delivered isHeard
   heard-crashing other same =
       ap (λ (b : Bool). cond b code nothing)
-      (and-goes-on (eqb c r) (names reach i) (eq-eqb c r same) ∙ or-goes-on (completesRound r c) (eqb c r && names reach i) (crashing-now r c other same))
+      (and-goes-on (eqb c r) (names reach i) (eq-eqb c r same) ∙ or-goes-on (completesRound r c) (eqb c r && names reach i) (not-completed r c (omega arith) (omega arith)))
 
   completing-is-heard : (c ≡ 0) ⊎ (c ≢ r) → completesRound r c ≡ isHeard r i c reach
   unfolding isHeard
-  completing-is-heard (inl never) = always-completing r c never ∙ sym (or-left (completesRound r c) (eqb c r && names reach i) (always-completing r c never))
+  completing-is-heard (inl never) = completed r c (inl never) ∙ sym (or-left (completesRound r c) (eqb c r && names reach i) (completed r c (inl never)))
   completing-is-heard (inr other) =
       elim (true-or-false (completesRound r c)) [
         | inl e ↦ e ∙ sym (or-left (completesRound r c) (eqb c r && names reach i) e)

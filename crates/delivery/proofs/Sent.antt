@@ -22,9 +22,9 @@ use Rattle.sets.proofs.Theorem.{table-facts}
 use Rattle.member.specs.Saying.{nothing}
 use Rattle.run.specs.Run.{completesRound}
 use Rattle.run.specs.Report.{sentBy, messagesOf}
-use Rattle.run.proofs.Rounds.{sends-nothing, sends-to-all, sends-to-reach, sends-no-more}
+use Rattle.run.proofs.Rounds.{not-completed, completed, sends-nothing, sends-to-all, sends-to-reach, sends-no-more}
 use Rattle.delivery.specs.Delivery.{Entered}
-use Rattle.delivery.proofs.Heard.{crashing-now, always-completing, fromCompleting}
+use Rattle.delivery.proofs.Heard.{fromCompleting}
 
 both-high : (b : Bool) (x y high : ℕ) → x ≤ high → y ≤ high → cond b x y ≤ high
 both-high b x y high p q =
@@ -89,7 +89,7 @@ module _ (r c reach code : ℕ) where
   completing-adds never =
       elim (true-or-false (eqb code nothing)) [
         | inl z ↦ sym (sends-nothing 0 r c reach code (eqb-true code nothing z))
-        | inr z ↦ sym (sends-to-all 0 r c reach code (eqb-false code nothing z) (always-completing r c never))
+        | inr z ↦ sym (sends-to-all 0 r c reach code (eqb-false code nothing z) (completed r c (inl never)))
       ]
 
   other-adds : c ≢ r → 0 ≡ sentBy 0 r c reach code
@@ -111,7 +111,7 @@ module _ (r c reach code : ℕ) where
   silence-added e = sym (sends-nothing 0 r c reach code e)
 
   pub reach-added : code ≢ nothing → c ≢ 0 → c ≡ r → ones reach ≡ sentBy 0 r c reach code
-  reach-added some crashes now = sym (sends-to-reach 0 r c reach code some (crashing-now r c crashes now) now)
+  reach-added some crashes now = sym (sends-to-reach 0 r c reach code some (not-completed r c (omega arith) (omega arith)) now)
 
 -- how many speak, of a row of n codes with zeros after them
 speakers-are : (n : ℕ) (f : ℕ → ℕ) {row : List ℕ} → n ≤ largest → row ≡ padded n f

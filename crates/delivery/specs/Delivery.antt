@@ -22,8 +22,8 @@ pub record Delivers (n r : ℕ) (code : ℕ → ℕ) (crashes reaches : List ℕ
   pub few : messages ≤ largest * largest
 
 -- A sender with this crash round, reach and code was looked at in round r: if it crashes in the round, its place j in the first n rows holds what each
--- process hears of it, and else no row has changed; and what it sends, as one of no processes that would hear a completing sender. Only this
--- crate's own functions cite it.
+-- process hears of it, and else no row has changed; and what it sends if it crashes in the round, which is what `sentBy` gives for n = 0: what completing
+-- senders add is counted apart. Only this crate's own functions cite it.
 pub record Entered (n r j code c reach : ℕ) (before : List (List ℕ)) (messages : ℕ) (after : List (List ℕ)) : Type 0 where
   pub crashing : c ≢ 0 → c ≡ r → Overwritten n (λ (i : ℕ). set (getD before i []) j (cond (names reach i) code nothing)) before after
   pub other : (c ≡ 0) ⊎ (c ≢ r) → after ≡ before

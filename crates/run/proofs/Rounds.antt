@@ -6,7 +6,7 @@ use mathlib.Core.List.{List}
 use mathlib.Core.Bool.{true, false, not, _&&_}
 use Prim.Native.Nat.{ℕ, zero, suc, _+_, _≤_, _<_}
 use native.Mathlib.Omega.{arith}
-use lib.Dec.{eqb}
+use lib.Dec.{eqb, ltb}
 use lib.Count.{ones}
 use lib.ListN.{length}
 use borrow.Author.Tests.{eqb-true, eqb-false, eq-eqb, ne-eqb, ltb-true, lt-ltb, le-ltb}
@@ -22,16 +22,23 @@ use Rattle.run.specs.Run.{completesRound, isHeard, delivered, completes,
 use Rattle.run.specs.Report.{sentBy}
 use Rattle.run.specs.Facts.{WhoHearsWhom, WhatIsSent, WhoMoves}
 
-module _ (s : Schedule) (r i : ℕ) where
-  -- a process completes the rounds before its crash round, and all of them if that is 0
-  pub completes-not : 1 ≤ crashOf s i → crashOf s i ≤ r → completes s r i ≡ false
+-- a process with crash round c completes the rounds before it, and all of them if that is 0
+module _ (r c : ℕ) where
+  pub not-completed : 1 ≤ c → c ≤ r → completesRound r c ≡ false
   unfolding completesRound
-  completes-not lo hi = or-neither _ _ (ne-eqb (crashOf s i) 0 (λ z. omega arith)) (le-ltb r _ (omega arith))
+  not-completed lo hi = or-neither (eqb c 0) (ltb r c) (ne-eqb c 0 (λ z. omega arith)) (le-ltb r c (omega arith))
+
+  pub completed : (c ≡ 0) ⊎ (r < c) → completesRound r c ≡ true
+  unfolding completesRound
+  completed (inl z) = or-left (eqb c 0) (ltb r c) (eq-eqb c 0 z)
+  completed (inr l) = or-right (eqb c 0) (ltb r c) (lt-ltb r c (omega arith))
+
+module _ (s : Schedule) (r i : ℕ) where
+  pub completes-not : 1 ≤ crashOf s i → crashOf s i ≤ r → completes s r i ≡ false
+  completes-not lo hi = not-completed r (crashOf s i) lo hi
 
   pub completes-if : (crashOf s i ≡ 0) ⊎ (r < crashOf s i) → completes s r i ≡ true
-  unfolding completesRound
-  completes-if (inl z) = or-left _ _ (eq-eqb (crashOf s i) 0 z)
-  completes-if (inr l) = or-right (eqb (crashOf s i) 0) _ (lt-ltb r _ (omega arith))
+  completes-if e = completed r (crashOf s i) e
 
   pub if-completes : completes s r i ≡ true → (crashOf s i ≡ 0) ⊎ (r < crashOf s i)
   unfolding completesRound
@@ -88,7 +95,7 @@ module _ (P : Protocol) (r c : ℕ) (state : Member) (row : List ℕ) where
   other-moves h e = cond-true (completesRound r c && not (P .stopped state)) (P .hears state row) state (and-both (completesRound r c) _ h (ap not e))
 
 module _ (P : Protocol) (s : Schedule) where
-  module _ (r : ℕ) (states : List (Member)) (j : ℕ) where
+  module _ (r : ℕ) (states : List Member) (j : ℕ) where
     abbrev said : ℕ
     said = P .says (stateAt states j)
 

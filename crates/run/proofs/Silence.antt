@@ -26,7 +26,7 @@ use Rattle.run.proofs.RunWorld.{state-is}
 
 module _ (P : Protocol) (s : Schedule) (some : 0 < s .n) (mute : (m : Member) → P .says m ≡ nothing → P .stopped m ≡ true) where
   -- whoever completes a round in which nothing is sent has nothing to say
-  nothing-to-say : (r : ℕ) (states : List (Member)) → sum (s .n) (sent P s r states) ≡ 0 → (i : ℕ) → i < s .n → completes s r i ≡ true
+  nothing-to-say : (r : ℕ) (states : List Member) → sum (s .n) (sent P s r states) ≡ 0 → (i : ℕ) → i < s .n → completes s r i ≡ true
       → P .says (stateAt states i) ≡ nothing
   nothing-to-say r states z i l c =
       elim (true-or-false (eqb (P .says (stateAt states i)) nothing)) [
@@ -38,7 +38,7 @@ module _ (P : Protocol) (s : Schedule) (some : 0 < s .n) (mute : (m : Member) �
       ]
 
   -- so such a round leaves every state as it is
-  pub nothing-moves : (r : ℕ) (states : List (Member)) → sum (s .n) (sent P s r states) ≡ 0 → (i : ℕ) → i < s .n → nextState P s r states i ≡ stateAt states i
+  pub nothing-moves : (r : ℕ) (states : List Member) → sum (s .n) (sent P s r states) ≡ 0 → (i : ℕ) → i < s .n → nextState P s r states i ≡ stateAt states i
   unfolding nextState
   nothing-moves r states z i l =
       elim (true-or-false (completes s r i)) [

@@ -19,7 +19,7 @@ use Rattle.run.specs.Given.{GivenDemand3}
 
 module _ (P : Protocol) (s : Schedule) where
   -- Who hears whom in round r, whatever the states at its start: what i hears from j.
-  pub record WhoHearsWhom (r : ℕ) (states : List (Member)) (i j : ℕ) : Type 0 where
+  pub record WhoHearsWhom (r : ℕ) (states : List Member) (i j : ℕ) : Type 0 where
     -- what j says, if j never crashes or crashes in a later round; so a process that completes the round hears itself
     pub completing : Completes s r j → codeHeard P s r states i j ≡ P .says (stateAt states j)
     -- what j says, if j crashes in this round and its reach names i
@@ -30,7 +30,7 @@ module _ (P : Protocol) (s : Schedule) where
     pub silent : 1 ≤ crashOf s j → crashOf s j < r → codeHeard P s r states i j ≡ nothing
 
   -- What sender j adds to the messages of round r, whatever the states at its start.
-  pub record WhatIsSent (r : ℕ) (states : List (Member)) (j : ℕ) : Type 0 where
+  pub record WhatIsSent (r : ℕ) (states : List Member) (j : ℕ) : Type 0 where
     -- nothing, if it says nothing; n, if it completes the round; the ones of its reach, if it crashes in the round; nothing, if it crashed before
     pub says-nothing : P .says (stateAt states j) ≡ nothing → sent P s r states j ≡ 0
     pub completing : P .says (stateAt states j) ≢ nothing → Completes s r j → sent P s r states j ≡ s .n

@@ -8,7 +8,7 @@ use lib.ListN.{getD}
 use Rattle.laws.specs.Below.{sum, tabulate, fold}
 use Rattle.member.specs.declared.Member.{Member}
 use Rattle.member.specs.Saying.{nothing}
-use Rattle.schedule.specs.Schedule.{Schedule, crashOf, reachOf, crashCount}
+use Rattle.schedule.specs.Schedule.{Schedule, crashCount}
 use Rattle.run.specs.Protocol.{Protocol}
 use Rattle.run.specs.Run.{completesRound, stateAt, codeSaid, statesAfter, final}
 
@@ -47,10 +47,13 @@ module _ (round : ℕ → ℕ) where
   unfoldable pub lastOf : ℕ → ℕ
   lastOf n = fold n (λ i found. max found (round i)) 0
 
--- Of n processes whose crash rounds and reaches stand in these tables, round r, in which the process at place j says `code j`: the messages of all
--- senders.
+-- Of n processes whose crash rounds and reaches stand in these tables, in round r, in which the process at place j says `code j`: what sender j adds,
+abbrev pub sentFrom : List ℕ → List ℕ → ℕ → (ℕ → ℕ) → ℕ → ℕ → ℕ
+sentFrom crashes reaches r code n j = sentBy n r (getD crashes j 0) (getD reaches j 0) (code j)
+
+-- and the messages of all senders
 abbrev pub messagesOf : List ℕ → List ℕ → ℕ → (ℕ → ℕ) → ℕ → ℕ
-messagesOf crashes reaches r code n = sum n (λ j. sentBy n r (getD crashes j 0) (getD reaches j 0) (code j))
+messagesOf crashes reaches r code n = sum n (sentFrom crashes reaches r code n)
 
 module _ (states : List Member) where
   -- the decided round of process i in these states, 0 for none
@@ -64,7 +67,7 @@ module _ (states : List Member) where
 module _ (P : Protocol) (s : Schedule) where
   -- what sender j adds in round r, from the states at its start
   abbrev pub sent : ℕ → List Member → ℕ → ℕ
-  sent r states j = sentBy (s .n) r (crashOf s j) (reachOf s j) (codeSaid P states j)
+  sent r states = sentFrom (s .crashes) (s .reaches) r (codeSaid P states) (s .n)
 
   -- the messages of all senders in the round that follows r rounds
   abbrev pub sentAfter : ℕ → ℕ

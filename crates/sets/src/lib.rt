@@ -34,7 +34,10 @@ pub fn byte_at(table: &[u8], i: usize) -> u8
 pub fn set_at(table: &[Set], i: usize) -> Set
     ensures entry { λ r. ⌜ r ≡ getD (now (table .entry)) i 0 ⌝ }
 {
-    if i < table.len() { table[i] } else { 0 }
+    if table.len() <= i {
+        return 0;
+    }
+    table[i]
 }
 
 // Whether the set names the process at place i. Nobody past its bits is named.
