@@ -1,5 +1,4 @@
 pub mod InOrder
 pub mod Entries
-pub mod Copies
 pub mod Whole
 pub mod Vectors

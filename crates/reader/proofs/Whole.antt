@@ -1,15 +1,16 @@
 -- The whole reading: the questions of the text are those of its head and those of the rest, and the tables are filled with the schedule of the text
 -- exactly where all of them are passed. Assumes nothing.
-use mathlib.Core.Path.{_≡_, sym, ap, ap₂, _∙_, subst}
+use mathlib.Core.Path.{_≡_, refl, sym, ap, ap₂, _∙_, subst}
 use mathlib.Core.Logic.{inl, inr}
 use mathlib.Core.List.{List, _++_}
 use mathlib.Core.Bool.{true, false}
 use Prim.Native.Nat.{ℕ, _≤_}
 use native.Mathlib.Omega.{arith}
-use lib.ListN.{length, take, drop}
+use lib.ListN.{length, getD, take, drop}
 use lib.Seq.{length-take-le}
 use Rattle.sets.specs.Largest.{largest}
 use Rattle.laws.specs.Below.{tabulate}
+use Rattle.laws.specs.Filled.{Overwritten}
 use Rattle.laws.specs.Answer.{ask, Answer, accepted, refused, answer, andNext, nextEach}
 use Rattle.laws.proofs.Answer.{passed, valueOr, not-accepted, and-next-passes, and-next-refused, and-next-accepted, and-next-either}
 use Rattle.laws.proofs.Test.{within-high}
@@ -32,10 +33,12 @@ module _ {A B : Type 0} {q : Answer (Unit {0}) B} (given kept : A) where
   keeps e = sym (ap (λ (x : Answer (Unit {0}) B). givenOr x given kept) e)
 
 -- a table whose first n entries are copied from one that holds these entries
-pub filled-with : (n : ℕ) (own lent read : List ℕ) → n ≤ length own → take n own ≡ read → take n own ++ drop n lent ≡ filled read lent
-filled-with n own lent read l e =
+pub filled-with : (n : ℕ) (own lent read : List ℕ) {after : List ℕ} → n ≤ length own → take n own ≡ read → Overwritten n (λ i. getD own i 0) lent after
+    → after ≡ filled read lent
+filled-with n own lent read l e h =
     let long : n ≡ length read = sym (length-take-le n own l) ∙ ap length e in
-    ap₂ (λ (front : List ℕ) (k : ℕ). front ++ drop k lent) e long
+    let front : tabulate n (λ i. getD own i 0) ≡ read = sym (filled-take l (record { long = refl; at = λ k b. refl })) ∙ e in
+    h .is ∙ ap₂ (λ (entries : List ℕ) (k : ℕ). entries ++ drop k lent) front long
 
 module _ (text : List ℕ) (n t : ℕ) (en : sizesIn text .n ≡ n) (et : sizesIn text .t ≡ t) where
   -- the questions of the lines refuse

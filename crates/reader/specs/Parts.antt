@@ -1,10 +1,10 @@
 -- What the parts of a reading answer, and what they leave in the tables. Only this crate's own functions cite it.
 use Prim.Native.Nat.{ℕ}
 use mathlib.Core.Path.{_≡_}
-use mathlib.Core.List.{List, _++_}
-use lib.ListN.{take, drop}
+use mathlib.Core.List.{List}
+use lib.ListN.{getD}
 use Rattle.laws.specs.Answer.{Answer, accepted, refused}
-use Rattle.laws.specs.Filled.{Filled}
+use Rattle.laws.specs.Filled.{Filled, Overwritten}
 use Rattle.sets.specs.Largest.{largest}
 use Rattle.text.specs.Reading.{entryIn, scheduleIn, restQuestions}
 use Rattle.reader.specs.Answers.{givenOr, filled}
@@ -34,6 +34,6 @@ pub record ReadsRest (text votes crashes reaches : List ℕ) (r : Asked) (votesN
 
 -- Three lent tables after their first n entries were filled with those of three others, and the other entries left.
 pub record Fills (n : ℕ) (voted crashed reached votes crashes reaches votesNow crashesNow reachesNow : List ℕ) : Type 0 where
-  pub votes-filled : votesNow ≡ take n voted ++ drop n votes
-  pub crashes-filled : crashesNow ≡ take n crashed ++ drop n crashes
-  pub reaches-filled : reachesNow ≡ take n reached ++ drop n reaches
+  pub votes-filled : Overwritten n (λ i. getD voted i 0) votes votesNow
+  pub crashes-filled : Overwritten n (λ i. getD crashed i 0) crashes crashesNow
+  pub reaches-filled : Overwritten n (λ i. getD reached i 0) reaches reachesNow

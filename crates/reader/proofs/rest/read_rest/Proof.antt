@@ -123,9 +123,9 @@ returns-3 c =
     let reaches-long = tables .2 .long in
     record {
       asked = sym e;
-      votes-read = f .fill .ensures .votes-filled ∙ filled-with (a .n) _ _ _ (omega arith) votes ∙ gives _ _ e;
-      crashes-read = f .fill .ensures .crashes-filled ∙ filled-with (a .n) _ _ _ (omega arith) crashes ∙ gives _ _ e;
-      reaches-read = f .fill .ensures .reaches-filled ∙ filled-with (a .n) _ _ _ (omega arith) reaches ∙ gives _ _ e;
+      votes-read = filled-with (a .n) _ _ _ (omega arith) votes (f .fill .ensures .votes-filled) ∙ gives _ _ e;
+      crashes-read = filled-with (a .n) _ _ _ (omega arith) crashes (f .fill .ensures .crashes-filled) ∙ gives _ _ e;
+      reaches-read = filled-with (a .n) _ _ _ (omega arith) reaches (f .fill .ensures .reaches-filled) ∙ gives _ _ e;
     }
 
 pub read-rest-spec : {M : Type 1} → statement M

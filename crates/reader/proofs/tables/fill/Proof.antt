@@ -1,12 +1,11 @@
 -- `fill` meets its contract: after i entries the first i are copied. Assumes nothing.
-use mathlib.Core.Path.{_≡_, refl, ap, _∙_}
-use mathlib.Core.List.{List}
-use Prim.Native.Nat.{ℕ, _-_, _≤_}
+use mathlib.Core.Path.{_≡_, refl, _∙_}
+use Prim.Native.Nat.{_-_, _≤_}
 use native.Mathlib.Omega.{arith}
-use borrow.Author.Needs.{needs}
-use lib.ListN.{length, getD, set, length-set}
+use lib.ListN.{length, getD, length-set}
 use Rattle.sets.specs.Largest.{largest}
-use Rattle.reader.proofs.Copies.{copied, copied-more}
+use Rattle.laws.specs.Filled.{Overwritten}
+use Rattle.laws.proofs.Overwritten.{over-start, over-more, over-all}
 use Rattle.reader.proofs.tables.fill.Statement.{statement}
 use Rattle.reader.proofs.tables.fill.Tie as tie
 
@@ -16,15 +15,15 @@ Inv-loop n votes₀ crashes₀ reaches₀ voted crashed reached i₀ votes crash
     × (length votes ≡ largest)
     × (length crashes ≡ largest)
     × (length reaches ≡ largest)
-    × (votes ≡ copied voted votes₀ i)
-    × (crashes ≡ copied crashed crashes₀ i)
-    × (reaches ≡ copied reached reaches₀ i)
+    × Overwritten i (λ k. getD voted k 0) votes₀ votes
+    × Overwritten i (λ k. getD crashed k 0) crashes₀ crashes
+    × Overwritten i (λ k. getD reached k 0) reaches₀ reaches
 
 abbrev μ-loop : tie.MeasureT-loop
 μ-loop n votes₀ crashes₀ reaches₀ voted crashed reached i₀ votes crashes reaches i = n - i
 
 loop-holds : tie.Need-loop-holds Inv-loop μ-loop
-loop-holds c = (omega arith, c .pre .1 .0, c .pre .1 .1, c .pre .1 .2, refl, refl, refl)
+loop-holds c = (omega arith, c .pre .1 .0, c .pre .1 .1, c .pre .1 .2, over-start refl, over-start refl, over-start refl)
 
 array-read-votes : tie.Need-array-read-votes Inv-loop μ-loop
 array-read-votes c = omega arith
@@ -58,18 +57,15 @@ loop-less c = omega arith
 
 loop-again : tie.Need-loop-again Inv-loop μ-loop
 loop-again c =
-    let a = c .before .before .args in
     let loop = c .before .loop in
-    let v : length (a .t2) ≡ largest = search needs in
-    let k : length (a .t3) ≡ largest = search needs in
-    let m : length (a .t4) ≡ largest = search needs in (
+    let pre = c .before .before .pre in (
       omega arith,
       length-set (loop .votes) (loop .i) _ ∙ loop .inv .1,
       length-set (loop .crashes) (loop .i) _ ∙ loop .inv .2,
       length-set (loop .reaches) (loop .i) _ ∙ loop .inv .3,
-      ap (λ (table : List ℕ). set table (loop .i) (getD (a .t2) (loop .i) 0)) (loop .inv .4) ∙ copied-more (a .t2) (a .votes .now) (loop .i) (omega arith) (omega arith),
-      ap (λ (table : List ℕ). set table (loop .i) (getD (a .t3) (loop .i) 0)) (loop .inv .5) ∙ copied-more (a .t3) (a .crashes .now) (loop .i) (omega arith) (omega arith),
-      ap (λ (table : List ℕ). set table (loop .i) (getD (a .t4) (loop .i) 0)) (loop .inv .6) ∙ copied-more (a .t4) (a .reaches .now) (loop .i) (omega arith) (omega arith),
+      over-more (omega arith) (loop .inv .4) refl,
+      over-more (omega arith) (loop .inv .5) refl,
+      over-more (omega arith) (loop .inv .6) refl,
     )
 
 same-length : tie.Need-same-length Inv-loop μ-loop
@@ -87,9 +83,9 @@ returns c =
     let loop = c .before .loop in
     let all : loop .i ≡ a .n = omega arith in
     record {
-      votes-filled = loop .inv .4 ∙ ap (copied (a .t2) (a .votes .now)) all;
-      crashes-filled = loop .inv .5 ∙ ap (copied (a .t3) (a .crashes .now)) all;
-      reaches-filled = loop .inv .6 ∙ ap (copied (a .t4) (a .reaches .now)) all;
+      votes-filled = over-all (loop .inv .4) all;
+      crashes-filled = over-all (loop .inv .5) all;
+      reaches-filled = over-all (loop .inv .6) all;
     }
 
 pub fill-spec : {M : Type 1} → statement M
