@@ -2,18 +2,19 @@
  * Two uses of the library. First a cluster of four members in one process:
  * they commit; with one vote for abort they abort; and they abort where one of
  * them crashes in round 1. Then the simulator on the same crash, and on a
- * schedule that is refused.
+ * schedule that is refused. Compiles as C11 and as C++.
  */
+#include <assert.h>
 #include <stdio.h>
 #include <string.h>
 
-#include "fcwfa.h"
+#include <fcwfa.h>
 
 #define N 4
 #define T 3
 
-_Static_assert(N <= FCWFA_LARGEST_N, "the cluster is not too large");
-_Static_assert(FCWFA_LARGEST_N <= 8 * sizeof(fcwfa_set), "a set has a bit for each process");
+static_assert(N <= FCWFA_LARGEST_N, "the cluster is not too large");
+static_assert(FCWFA_LARGEST_N <= 8 * sizeof(fcwfa_set), "a set has a bit for each process");
 
 /* The set of process i alone. */
 static fcwfa_set only(int i)

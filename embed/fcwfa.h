@@ -27,6 +27,15 @@
 extern "C" {
 #endif
 
+/*
+ * The version of this interface, as the pkg-config file and the Rust crate have
+ * it. It changes with what a program must know to call the library.
+ */
+#define FCWFA_VERSION_MAJOR 0
+#define FCWFA_VERSION_MINOR 2
+#define FCWFA_VERSION_PATCH 0
+#define FCWFA_VERSION "0.2.0"
+
 /* The largest number of processes. */
 #define FCWFA_LARGEST_N 32
 

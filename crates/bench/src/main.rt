@@ -3,7 +3,11 @@
 //
 // The array has one byte more than a text may have, 2,049, so that a text that is too long is noticed:
 // as many bytes of it are refused as all of it is.
+//
+// A program of this kit cannot choose its exit status. So where the output could not be written it says
+// so in one line on standard error.
 use forms::LONGEST;
+use libc::STDERR_FILENO;
 use libc::STDIN_FILENO;
 use libc::STDOUT_FILENO;
 
@@ -13,5 +17,8 @@ fn main() {
     let answer = output::printed(&input[..count]);
     let bytes = answer.bytes;
     let length = answer.length;
-    io::write_all(STDOUT_FILENO, &bytes[..length]);
+    let is_written = io::write_all(STDOUT_FILENO, &bytes[..length]);
+    if !is_written {
+        io::write_all(STDERR_FILENO, b"bench: the output could not be written\n");
+    }
 }
