@@ -1,111 +1,124 @@
-//! The library as a Rust program uses it.
-use fcwfa::{simulate, Counts, Member, Refusal, Set, LARGEST};
+//! The crate as a program uses it.
+use fcwfa::{simulate, Code, Counts, Decided, Decision, Member, Refusal, Report, Vote, LARGEST};
+
+/// A decision with its round.
+fn decided(decision: Decision, round: usize) -> Option<Decided> {
+    Some(Decided { decision, round })
+}
 
 /// Lets members with these votes exchange rows, without a crash, until all have stopped.
-fn play(votes: [u8; 4]) -> Result<Vec<Option<(u8, u8)>>, Refusal> {
+fn play(votes: [Vote; 4]) -> Result<Vec<Option<Decided>>, Refusal> {
     let mut members = Vec::new();
-    for (place, &vote) in votes.iter().enumerate() {
-        members.push(Member::open(4, 3, place + 1, vote)?);
+    for (id, vote) in (1..).zip(votes) {
+        members.push(Member::open(4, 3, id, vote)?);
     }
-    loop {
-        let row = members
-            .iter()
-            .map(Member::say)
-            .collect::<Result<Vec<u8>, Refusal>>()?;
-        if row.iter().all(|&code| code == 0) {
-            return Ok(members.iter().map(Member::decision).collect());
-        }
-        for (member, &code) in members.iter_mut().zip(&row) {
-            if code != 0 {
-                member.hear(&row)?;
-            }
+    while !members.iter().all(Member::is_stopped) {
+        let row: Vec<Code> = members.iter().map(Member::say).collect();
+        for member in members.iter_mut().filter(|member| !member.is_stopped()) {
+            member.hear(&row)?;
         }
     }
+    Ok(members.iter().map(Member::decision).collect())
 }
 
 #[test]
 fn members_commit_and_abort() {
-    assert_eq!(play([1, 1, 1, 1]), Ok(vec![Some((1, 2)); 4]));
-    assert_eq!(play([1, 1, 0, 1]), Ok(vec![Some((0, 2)); 4]));
+    let mut votes = [Vote::Commit; 4];
+    assert_eq!(play(votes), Ok(vec![decided(Decision::Commit, 2); 4]));
+    votes[2] = Vote::Abort;
+    assert_eq!(play(votes), Ok(vec![decided(Decision::Abort, 2); 4]));
+}
+
+#[test]
+fn a_member_shows_what_it_is() {
+    let mut member = Member::open(5, 4, 2, Vote::Commit).unwrap();
+    assert_eq!((member.n(), member.t(), member.id()), (5, 4, 2));
+    assert_eq!((member.round(), member.estimate()), (1, Decision::Commit));
+    assert_eq!(member.say(), Code::EstimateCommit);
+    // Process 4 crashes in round 1: the estimate becomes abort, and all that are heard in round 2 have taken it too.
+    let mut row = [Code::EstimateCommit; 5];
+    row[3] = Code::Nothing;
+    assert_eq!(member.hear(&row), Ok(()));
+    assert_eq!((member.round(), member.estimate()), (2, Decision::Abort));
+    assert_eq!((member.decision(), member.is_stopped()), (None, false));
+    row = [Code::EstimateAbort; 5];
+    row[3] = Code::Nothing;
+    assert_eq!(member.hear(&row), Ok(()));
+    assert_eq!(member.decision(), decided(Decision::Abort, 2));
+    assert_eq!(member.say(), Code::DecidedAbort);
+    row = [Code::DecidedAbort; 5];
+    row[3] = Code::Nothing;
+    assert_eq!(member.hear(&row), Ok(()));
+    assert_eq!((member.say(), member.is_stopped()), (Code::Nothing, true));
+    assert_eq!(member.decision(), decided(Decision::Abort, 2));
 }
 
 #[test]
 fn a_refused_member_call_changes_nothing() {
-    assert_eq!(Member::open(4, 3, 5, 1), Err(Refusal(10)));
-    let mut member = Member::open(4, 3, 2, 1).unwrap();
+    let open = |n, t, id| Member::open(n, t, id, Vote::Commit);
+    assert_eq!(open(3, 3, 1), Err(Refusal::N));
+    assert_eq!(open(4, 4, 1), Err(Refusal::T));
+    assert_eq!(open(4, 3, 0), Err(Refusal::Id));
+    assert_eq!(open(4, 3, 5), Err(Refusal::Id));
+    let mut member = open(4, 3, 2).unwrap();
     let before = member;
-    assert_eq!(member.hear(&[2, 2, 2]), Err(Refusal(13)));
-    assert_eq!(member.hear(&[2, 1, 2, 2]), Err(Refusal(15)));
-    assert_eq!(member.hear(&[2, 2, 2, 5]), Err(Refusal(14)));
+    let mut row = [Code::EstimateCommit; 4];
+    assert_eq!(member.hear(&[]), Err(Refusal::RowLength));
+    assert_eq!(member.hear(&row[1..]), Err(Refusal::RowLength));
+    row[1] = Code::EstimateAbort;
+    assert_eq!(member.hear(&row), Err(Refusal::OwnPlace));
     assert_eq!(member, before);
-    let mut unknown = Member { bytes: [9; 6] };
-    assert_eq!(unknown.say(), Err(Refusal(11)));
-    assert_eq!(unknown.hear(&[]), Err(Refusal(11)));
-    assert_eq!(unknown.bytes, [9; 6]);
 }
 
 #[test]
 fn a_schedule_is_run_to_its_end() {
-    let (mut decisions, mut rounds) = ([9; 4], [9; 4]);
-    let counts = simulate(
-        4,
-        3,
-        &[1; 4],
-        &[1, 0, 0, 0],
-        &[0b0010, 0, 0, 0],
-        &mut decisions,
-        &mut rounds,
-    );
-    assert_eq!(
-        counts,
-        Ok(Counts {
+    let report = simulate(4, 3, &[Vote::Commit; 4], &[1, 0, 0, 0], &[0b0010, 0, 0, 0]);
+    let abort = decided(Decision::Abort, 3);
+    let expected = Report {
+        counts: Counts {
             f: 1,
             first: 2,
             last: 3,
-            messages: 49
-        })
-    );
-    assert_eq!((decisions, rounds), ([2, 0, 0, 0], [0, 3, 3, 3]));
+            messages: 49,
+        },
+        decisions: vec![None, abort, abort, abort],
+    };
+    assert_eq!(report, Ok(expected));
 }
 
 #[test]
-fn a_refused_schedule_changes_nothing() {
-    let (mut decisions, mut rounds) = ([9; 4], [9; 4]);
-    let mut run = |t, votes: &[u8], crashes: &[u8], reaches: &[Set]| {
-        simulate(4, t, votes, crashes, reaches, &mut decisions, &mut rounds)
+fn a_schedule_that_breaks_a_rule_is_refused() {
+    let votes = [Vote::Commit; 4];
+    let run = |n, t, crashes: &[u8], reaches: &[u32]| {
+        let report = simulate(n, t, &votes, crashes, reaches);
+        report.map(|report| report.counts)
     };
-    assert_eq!(run(4, &[1; 4], &[0; 4], &[0; 4]), Err(Refusal(2)));
-    assert_eq!(run(3, &[1; 3], &[0; 4], &[0; 4]), Err(Refusal(3)));
-    assert_eq!(run(3, &[], &[], &[]), Err(Refusal(3)));
-    assert_eq!(run(3, &[2; 4], &[9; 4], &[9; 4]), Err(Refusal(4)));
-    assert_eq!(run(3, &[1; 4], &[5; 4], &[9; 4]), Err(Refusal(5)));
-    assert_eq!(run(3, &[1; 4], &[1; 4], &[1; 4]), Err(Refusal(6)));
-    assert_eq!(run(3, &[1; 4], &[1; 4], &[0; 4]), Err(Refusal(7)));
-    assert_eq!((decisions, rounds), ([9; 4], [9; 4]));
+    assert_eq!(run(3, 3, &[0; 4], &[0; 4]), Err(Refusal::N));
+    assert_eq!(run(usize::MAX, 3, &[0; 4], &[0; 4]), Err(Refusal::N));
+    assert_eq!(run(4, 4, &[0; 4], &[0; 4]), Err(Refusal::T));
+    assert_eq!(run(5, 4, &[0; 5], &[0; 5]), Err(Refusal::Length));
+    assert_eq!(run(4, 3, &[0; 3], &[0; 4]), Err(Refusal::Length));
+    assert_eq!(run(4, 3, &[5; 4], &[9; 4]), Err(Refusal::Crash));
+    assert_eq!(run(4, 3, &[1; 4], &[1; 4]), Err(Refusal::Reach));
+    assert_eq!(run(4, 3, &[1; 4], &[0; 4]), Err(Refusal::Crashes));
 }
 
 /// Process 2 of n crashes in round 1 and reaches the last process of the largest cluster alone.
 fn one_crash(n: usize) -> Result<Counts, Refusal> {
-    let (votes, mut crashes, mut reaches) = (vec![1; n], vec![0; n], vec![0; n]);
+    let (votes, mut crashes, mut reaches) = (vec![Vote::Commit; n], vec![0; n], vec![0; n]);
     crashes[1] = 1;
     reaches[1] = 1 << (LARGEST - 1);
-    let (mut decisions, mut rounds) = (vec![9; n], vec![9; n]);
-    simulate(
-        n,
-        3,
-        &votes,
-        &crashes,
-        &reaches,
-        &mut decisions,
-        &mut rounds,
-    )
+    simulate(n, 3, &votes, &crashes, &reaches).map(|report| report.counts)
 }
 
 #[test]
 fn the_largest_cluster_runs_and_a_larger_one_is_refused() {
     let (n, larger) = (LARGEST, LARGEST + 1);
-    assert!(Member::open(n, n - 1, n, 1).is_ok());
-    assert_eq!(Member::open(larger, n - 1, n, 1), Err(Refusal(1)));
+    assert!(Member::open(n, n - 1, n, Vote::Commit).is_ok());
+    assert_eq!(
+        Member::open(larger, n - 1, n, Vote::Commit),
+        Err(Refusal::N)
+    );
     assert_eq!(
         one_crash(n),
         Ok(Counts {
@@ -115,5 +128,5 @@ fn the_largest_cluster_runs_and_a_larger_one_is_refused() {
             messages: 4 * n * (n - 1) + 1
         })
     );
-    assert_eq!(one_crash(larger), Err(Refusal(1)));
+    assert_eq!(one_crash(larger), Err(Refusal::N));
 }

@@ -1,35 +1,30 @@
 //! What becomes of members outside of the contract of `embed/README.md`: why the contract is needed.
-use fcwfa::{Member, Refusal};
+use fcwfa::{bytes, Code, Decided, Decision, Member, Refusal, Vote};
 
-/// Four members with t = 3 that all vote 1.
+/// A decision with its round.
+fn decided(decision: Decision, round: usize) -> Option<Decided> {
+    Some(Decided { decision, round })
+}
+
+/// Four members with t = 3 that all vote to commit.
 fn four() -> Vec<Member> {
     (1..=4)
-        .map(|id| Member::open(4, 3, id, 1).unwrap())
+        .map(|id| Member::open(4, 3, id, Vote::Commit).unwrap())
         .collect()
 }
 
-/// Plays rounds until all have stopped. Nobody crashes. Where the message of a round from one process to another is lost, a 0 is put down
-/// for it: what (a) of the contract forbids.
+/// Plays rounds until all have stopped. Nobody crashes. Where the message of a round from one process to another is lost, nothing is put
+/// down for it: what (a) of the contract forbids.
 fn play(
     mut members: Vec<Member>,
-    lost: fn(round: u8, from: u8, to: u8) -> bool,
-) -> Result<Vec<Option<(u8, u8)>>, Refusal> {
-    for round in 1.. {
-        let said = members
-            .iter()
-            .map(Member::say)
-            .collect::<Result<Vec<u8>, Refusal>>()?;
-        if said.iter().all(|&code| code == 0) {
-            break;
-        }
-        for (to, member) in (1..).zip(&mut members) {
-            if said[usize::from(to) - 1] == 0 {
-                continue;
-            }
-            let row: Vec<u8> = (1..)
-                .zip(&said)
-                .map(|(from, &code)| if lost(round, from, to) { 0 } else { code })
-                .collect();
+    lost: fn(round: usize, from: usize, to: usize) -> bool,
+) -> Result<Vec<Option<Decided>>, Refusal> {
+    while !members.iter().all(Member::is_stopped) {
+        let said: Vec<Code> = members.iter().map(Member::say).collect();
+        for member in members.iter_mut().filter(|member| !member.is_stopped()) {
+            let arrives = |from| !lost(member.round(), from, member.id());
+            let heard = |(from, &code)| if arrives(from) { code } else { Code::Nothing };
+            let row: Vec<Code> = (1..).zip(&said).map(heard).collect();
             member.hear(&row)?;
         }
     }
@@ -37,7 +32,7 @@ fn play(
 }
 
 /// The messages that are lost in the split.
-fn split(round: u8, from: u8, to: u8) -> bool {
+fn split(round: usize, from: usize, to: usize) -> bool {
     match round {
         1 => (from, to) == (1, 4),
         2 => from == 4 && to <= 2,
@@ -45,42 +40,56 @@ fn split(round: u8, from: u8, to: u8) -> bool {
     }
 }
 
-/// A run outside of the contract: all vote 1 and nobody crashes, but messages are lost and put down as 0. Members 3 and 4 abort in round 2,
-/// members 1 and 2 commit in round 3, and no call is refused. The library cannot see it; the contract must rule it out.
+/// A run outside of the contract: all vote to commit and nobody crashes, but messages are lost and nothing is put down for them. Members 3
+/// and 4 abort in round 2, members 1 and 2 commit in round 3, and no call is refused. The library cannot see it; the contract must rule it
+/// out.
 #[test]
 fn lost_messages_put_down_as_crashes_split_the_cluster() {
-    assert_eq!(
-        play(four(), split),
-        Ok(vec![Some((1, 3)), Some((1, 3)), Some((0, 2)), Some((0, 2))])
-    );
+    let (commit, abort) = (decided(Decision::Commit, 3), decided(Decision::Abort, 2));
+    assert_eq!(play(four(), split), Ok(vec![commit, commit, abort, abort]));
 }
 
 /// The same members within the contract: every message arrives, and all commit in round 2.
 #[test]
 fn the_same_members_agree_if_every_message_arrives() {
-    assert_eq!(play(four(), |_, _, _| false), Ok(vec![Some((1, 2)); 4]));
+    let commit = decided(Decision::Commit, 2);
+    assert_eq!(play(four(), |_, _, _| false), Ok(vec![commit; 4]));
 }
 
-/// Some of what is outside of the contract shows in a row. It is refused, the state is as it was, and a decision stands.
+/// A byte from the wire that is no code is refused, before it can stand in a row and by the call on bare bytes, which then changes nothing.
+#[test]
+fn a_byte_that_is_no_code_is_refused() {
+    assert_eq!(Code::try_from(9), Err(Refusal::Code));
+    for member in four() {
+        let mut state = member.to_bytes();
+        assert_eq!(bytes::hear(&mut state, &[2, 2, 9, 2]), Err(14));
+        assert_eq!(state, member.to_bytes());
+    }
+}
+
+/// Some of what is outside of the contract shows in a row. It is refused, the member is as it was, and a decision stands.
 #[test]
 fn what_shows_in_a_row_is_refused() {
-    let mut member = Member::open(4, 3, 2, 1).unwrap();
-    // In round 2 process 1 crashes.
-    for row in [[2, 2, 2, 2], [0, 2, 2, 2]] {
+    use Code::{DecidedAbort, DecidedCommit, EstimateCommit, Nothing};
+    let mut member = Member::open(4, 3, 2, Vote::Commit).unwrap();
+    let mut row = [EstimateCommit; 4];
+    for round in 1..=4 {
+        // In round 2 process 1 crashes; in round 3 those that are left decide, and say so in round 4.
+        row[0] = if round == 1 { EstimateCommit } else { Nothing };
+        if round == 4 {
+            row[1..].fill(DecidedCommit);
+        }
         let before = member;
-        assert_eq!(member.hear(&[2, 2, 9, 2]), Err(Refusal(14)));
-        assert_eq!(member.hear(&[2, 2, 4, 2]), Err(Refusal(16)));
+        let (wrong, refusal) = match round {
+            1 | 2 => ([row[0], row[1], DecidedCommit, row[3]], Refusal::Early),
+            _ => ([row[0], row[1], DecidedAbort, DecidedCommit], Refusal::Both),
+        };
+        assert_eq!(member.hear(&wrong), Err(refusal));
         assert_eq!(member, before);
         assert_eq!(member.hear(&row), Ok(()));
     }
-    for row in [[0, 2, 2, 2], [0, 4, 4, 4]] {
-        let before = member;
-        assert_eq!(member.hear(&[0, row[1], 3, 4]), Err(Refusal(17)));
-        assert_eq!(member, before);
-        assert_eq!(member.hear(&row), Ok(()));
-        assert_eq!(member.decision(), Some((1, 3)));
-    }
-    assert_eq!(member.say(), Ok(0));
-    assert_eq!(member.hear(&[0; 4]), Err(Refusal(12)));
-    assert_eq!(member.decision(), Some((1, 3)));
+    let commit = decided(Decision::Commit, 3);
+    assert_eq!((member.decision(), member.say()), (commit, Nothing));
+    assert_eq!(member.hear(&[Nothing; 4]), Err(Refusal::Stopped));
+    assert_eq!(member.decision(), commit);
 }

@@ -1,5 +1,6 @@
-//! The proved bench and members, called in-process.
+//! The proved bench and members, called in-process on bare bytes and numbers, so that anything can be passed.
 
+use fcwfa::bytes;
 use reference::run::Counts;
 use reference::schedule::Schedule;
 
@@ -14,7 +15,7 @@ pub fn simulate(
     decisions: &mut [u8],
     rounds: &mut [u8],
 ) -> Result<Counts, u8> {
-    let counts = fcwfa::simulate(
+    let counts = bytes::simulate(
         schedule.n,
         schedule.t,
         &schedule.votes,
@@ -22,8 +23,7 @@ pub fn simulate(
         &schedule.reaches,
         decisions,
         rounds,
-    );
-    let counts = counts.map_err(|refusal| refusal.0)?;
+    )?;
     Ok(Counts {
         f: counts.f,
         first: counts.first,
@@ -37,21 +37,14 @@ pub struct Proved;
 
 impl Machine for Proved {
     fn open(&self, n: usize, t: usize, own: usize, vote: u8) -> Result<State, u8> {
-        let opened = fcwfa::Member::open(n, t, own, vote);
-        opened
-            .map(|member| member.bytes)
-            .map_err(|refusal| refusal.0)
+        bytes::open(n, t, own, vote)
     }
 
     fn say(&self, state: &State) -> Result<u8, u8> {
-        let member = fcwfa::Member { bytes: *state };
-        member.say().map_err(|refusal| refusal.0)
+        bytes::say(state)
     }
 
     fn hear(&self, state: &mut State, row: &[u8]) -> Result<(), u8> {
-        let mut member = fcwfa::Member { bytes: *state };
-        let heard = member.hear(row);
-        *state = member.bytes;
-        heard.map_err(|refusal| refusal.0)
+        bytes::hear(state, row)
     }
 }

@@ -3,6 +3,7 @@
 use std::cell::RefCell;
 
 use matching::generate::FAMILIES;
+use matching::members::State;
 use matching::random::Random;
 use reference::member::Member;
 use reference::run::play;
@@ -22,9 +23,10 @@ pub fn spread(n: usize) -> Vec<Schedule> {
     (0..COUNT).map(of_case).collect()
 }
 
-/// A member that is about to hear a row, and the row.
+/// A member that is about to hear a row, as the reference has it and as the six bytes of its state, and the row.
 pub struct Hearing {
     pub member: Member,
+    pub state: State,
     pub row: Vec<u8>,
 }
 
@@ -35,6 +37,7 @@ pub fn hearings(schedules: &[Schedule]) -> Vec<Hearing> {
         play(schedule, |member, row| {
             hearings.borrow_mut().push(Hearing {
                 member: *member,
+                state: member.to_bytes(),
                 row: row.to_vec(),
             });
             member

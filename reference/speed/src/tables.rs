@@ -3,6 +3,7 @@
 use std::hint::black_box;
 use std::iter::successors;
 
+use fcwfa::bytes;
 use matching::proved;
 use matching::tables::{by_reference, Simulate};
 use reference::questions::SIZES;
@@ -84,11 +85,10 @@ pub fn by_row() {
             [
                 &mut || {
                     for hearing in &hearings {
-                        let bytes = hearing.member.to_bytes();
-                        let mut member = fcwfa::Member { bytes };
-                        black_box(member.hear(black_box(&hearing.row)))
-                            .expect("a row that is heard");
-                        black_box(member);
+                        let mut state = hearing.state;
+                        let heard = bytes::hear(&mut state, black_box(&hearing.row));
+                        black_box(heard).expect("a row that is heard");
+                        black_box(state);
                     }
                 },
                 &mut || {

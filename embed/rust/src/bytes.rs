@@ -1,0 +1,128 @@
+//! The calls on bare bytes and numbers, as `embed/fcwfa.h` has them, for programs that carry or test any bytes.
+//!
+//! Each call takes any values. It does its work, or answers the number of the first question whose answer is no and leaves everything it was
+//! lent as it was; [`Refusal::from_number`](crate::Refusal::from_number) has the words for a number. The contract at the top of this crate
+//! holds for these calls too.
+//!
+//! Everything unsafe in this crate is here.
+#![allow(unsafe_code)]
+
+use std::mem::size_of;
+use std::slice::from_raw_parts;
+
+use crate::{Code, Counts, Set, Vote};
+
+/// A member's state: n, t, own number, the round to play next, the estimate and the decided round, a byte each.
+pub type State = [u8; 6];
+
+/// The decision of a process that made none; its round is 0.
+pub const NO_DECISION: u8 = 2;
+
+mod foreign {
+    use crate::Set;
+
+    extern "C" {
+        pub fn fcwfa_open(n: usize, t: usize, id: usize, vote: u8, state: *mut u8) -> u8;
+        pub fn fcwfa_say(state: *const u8, code: *mut u8) -> u8;
+        pub fn fcwfa_hear(state: *mut u8, row: *const u8, row_length: usize) -> u8;
+        pub fn fcwfa_simulate(
+            n: usize,
+            t: usize,
+            votes: *const u8,
+            votes_length: usize,
+            crashes: *const u8,
+            crashes_length: usize,
+            reaches: *const Set,
+            reaches_length: usize,
+            decisions: *mut u8,
+            decisions_length: usize,
+            rounds: *mut u8,
+            rounds_length: usize,
+            counts: *mut usize,
+        ) -> u8;
+    }
+}
+
+/// A call's number as a result: 0 is no refusal.
+fn accepted<T>(number: u8, value: T) -> Result<T, u8> {
+    match number {
+        0 => Ok(value),
+        _ => Err(number),
+    }
+}
+
+/// The state of a new member `id` of n, from 4 to [`LARGEST`](crate::LARGEST), with t crashes to bear and its vote, 0 (abort) or 1 (commit).
+/// Refusals: 1, 2, 10, 4.
+pub fn open(n: usize, t: usize, id: usize, vote: u8) -> Result<State, u8> {
+    let mut state = [0; 6];
+    // SAFETY: the pointer is good for the six bytes that the function writes.
+    let number = unsafe { foreign::fcwfa_open(n, t, id, vote, state.as_mut_ptr()) };
+    accepted(number, state)
+}
+
+/// The code that a member says in the round to come: 0 nothing, 1 or 2 the estimate 0 or 1, 3 or 4 decided 0 or 1. Refusal: 11.
+pub fn say(state: &State) -> Result<u8, u8> {
+    let mut code = 0;
+    // SAFETY: the state's pointer is good for six bytes and the code's for one, and they do not overlap.
+    let number = unsafe { foreign::fcwfa_say(state.as_ptr(), &mut code) };
+    accepted(number, code)
+}
+
+/// Hears the row of a round, a code for each process in order, the member's own included: see [`Member::hear`](crate::Member::hear).
+/// Refusals: 11 to 17.
+pub fn hear(state: &mut State, row: &[u8]) -> Result<(), u8> {
+    // SAFETY: the state's pointer is good for six bytes and the row's for its length; the state is lent by `&mut`, so they do not overlap.
+    let number = unsafe { foreign::fcwfa_hear(state.as_mut_ptr(), row.as_ptr(), row.len()) };
+    accepted(number, ())
+}
+
+/// Runs a whole cluster to its end: see [`simulate`](crate::simulate). `decisions` gets 0, 1 or [`NO_DECISION`] for each process, and `rounds`
+/// the round of it, 0 for none.
+///
+/// Refusals: 1, 2, 3 (all five tables are n long), 4, 5, 6 for each process in turn, 7.
+pub fn simulate(
+    n: usize,
+    t: usize,
+    votes: &[u8],
+    crashes: &[u8],
+    reaches: &[Set],
+    decisions: &mut [u8],
+    rounds: &mut [u8],
+) -> Result<Counts, u8> {
+    let mut counts = [0; 4];
+    // SAFETY: each pointer is good for the length given with it and the last for four numbers; what is written is lent by `&mut`, so it
+    // overlaps with nothing else.
+    let number = unsafe {
+        foreign::fcwfa_simulate(
+            n,
+            t,
+            votes.as_ptr(),
+            votes.len(),
+            crashes.as_ptr(),
+            crashes.len(),
+            reaches.as_ptr(),
+            reaches.len(),
+            decisions.as_mut_ptr(),
+            decisions.len(),
+            rounds.as_mut_ptr(),
+            rounds.len(),
+            counts.as_mut_ptr(),
+        )
+    };
+    accepted(number, Counts::of_table(counts))
+}
+
+// A code and a vote are a byte each.
+const _: () = assert!(size_of::<Code>() == 1 && size_of::<Vote>() == 1);
+
+/// Codes as the bytes that stand for them, without a copy.
+pub(crate) fn of_codes(codes: &[Code]) -> &[u8] {
+    // SAFETY: a code is `repr(u8)`, so as many bytes stand there. They are lent as long as the codes, and only to be read.
+    unsafe { from_raw_parts(codes.as_ptr().cast(), codes.len()) }
+}
+
+/// Votes as the bytes that stand for them, without a copy.
+pub(crate) fn of_votes(votes: &[Vote]) -> &[u8] {
+    // SAFETY: a vote is `repr(u8)`, so as many bytes stand there. They are lent as long as the votes, and only to be read.
+    unsafe { from_raw_parts(votes.as_ptr().cast(), votes.len()) }
+}

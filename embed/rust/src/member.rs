@@ -1,0 +1,96 @@
+//! One process of a transaction.
+
+use crate::bytes::{self, State};
+use crate::refusal::unknown;
+use crate::{Code, Decided, Decision, Refusal, Vote};
+
+/// A member: one process of a transaction. Its state is always in range, as it was opened, heard rows, or came from bytes that were asked.
+#[derive(Clone, Copy, Debug, PartialEq, Eq, Hash)]
+pub struct Member {
+    state: State,
+}
+
+impl Member {
+    /// A new member `id`, from 1, of a cluster of n, from 4 to [`LARGEST`](crate::LARGEST), that bears t crashes, with its vote.
+    ///
+    /// Refusals: [`Refusal::N`], [`Refusal::T`], [`Refusal::Id`].
+    pub fn open(n: usize, t: usize, id: usize, vote: Vote) -> Result<Member, Refusal> {
+        let state = bytes::open(n, t, id, vote.into()).map_err(Refusal::answered)?;
+        Ok(Member { state })
+    }
+
+    /// The member whose state these bytes are: n, t, own number, the round to play next, the estimate and the decided round.
+    ///
+    /// It is for inspection: a process that was down has crashed and must not go on from it. That the bytes are in range does not show that
+    /// they are the right ones.
+    ///
+    /// Refusal: [`Refusal::State`], exactly if the bytes are not a state in range.
+    pub fn from_bytes(state: [u8; 6]) -> Result<Member, Refusal> {
+        bytes::say(&state).map_err(Refusal::answered)?;
+        Ok(Member { state })
+    }
+
+    /// The member's state, to be stored or sent for inspection.
+    pub fn to_bytes(&self) -> [u8; 6] {
+        self.state
+    }
+
+    /// What the member says in the round to come; [`Code::Nothing`] if it has stopped.
+    pub fn say(&self) -> Code {
+        match bytes::say(&self.state) {
+            Ok(code) => Code::answered(code),
+            Err(number) => unknown("refusal of a member in range", number),
+        }
+    }
+
+    /// Hears the row of a round, a code for each process in order, the member's own included. A [`Code::Nothing`] stands for a process that
+    /// has crashed without completing this round, or has stopped, and for no other: never for a message that is late or lost. See the
+    /// contract at the top of this crate, (a) and (b).
+    ///
+    /// Refusals: [`Refusal::Stopped`], [`Refusal::RowLength`], [`Refusal::OwnPlace`], [`Refusal::Early`], [`Refusal::Both`]; the member is
+    /// then as it was. Never repair a row to get past one; (d) says what each shows.
+    pub fn hear(&mut self, row: &[Code]) -> Result<(), Refusal> {
+        bytes::hear(&mut self.state, bytes::of_codes(row)).map_err(Refusal::answered)
+    }
+
+    /// The number of processes.
+    pub fn n(&self) -> usize {
+        self.state[0].into()
+    }
+
+    /// The number of crashes to bear.
+    pub fn t(&self) -> usize {
+        self.state[1].into()
+    }
+
+    /// The member's own number, from 1.
+    pub fn id(&self) -> usize {
+        self.state[2].into()
+    }
+
+    /// The round to play next.
+    pub fn round(&self) -> usize {
+        self.state[3].into()
+    }
+
+    /// The estimate: the decision, once there is one.
+    pub fn estimate(&self) -> Decision {
+        Decision::answered(self.state[4])
+    }
+
+    /// The decision and its round, once there is one. It is final.
+    pub fn decision(&self) -> Option<Decided> {
+        match self.state[5] {
+            0 => None,
+            round => Some(Decided {
+                decision: self.estimate(),
+                round: round.into(),
+            }),
+        }
+    }
+
+    /// Whether the member has stopped: it has decided, and says and hears nothing more.
+    pub fn is_stopped(&self) -> bool {
+        self.say() == Code::Nothing
+    }
+}

@@ -1,0 +1,173 @@
+//! The types against the numbers that they stand for.
+use std::collections::BTreeSet;
+
+use fcwfa::bytes::{self, NO_DECISION};
+use fcwfa::{simulate, Code, Decided, Decision, Member, Refusal, Vote, LARGEST};
+
+/// Bytes that are no state are refused, so nothing that a member shows is out of range.
+#[test]
+fn bytes_that_are_no_state_are_refused() {
+    for bytes in [[4, 3, 1, 200, 7, 9], [0; 6], [9; 6], [255; 6]] {
+        assert_eq!(Member::from_bytes(bytes), Err(Refusal::State), "{bytes:?}");
+    }
+}
+
+/// Whether these are the last four bytes of a state in range with n = 4 and t = 3, as document 01 has it.
+fn in_range([id, round, estimate, decided]: [u8; 4]) -> bool {
+    let rounds = match decided {
+        0 => (1..=4).contains(&round),
+        2..=4 => (decided + 1..=decided + 2).contains(&round) && round <= 5,
+        _ => false,
+    };
+    rounds && (1..=4).contains(&id) && estimate <= 1
+}
+
+/// Every choice of four bytes that are small enough to be of interest with n = 4 and t = 3.
+fn small() -> impl Iterator<Item = [u8; 4]> {
+    let pairs = (0..=8).flat_map(|id| (0..=8).map(move |round| (id, round)));
+    let more = || (0..=3).flat_map(|estimate| (0..=8).map(move |decided| (estimate, decided)));
+    pairs.flat_map(move |(id, round)| {
+        more().map(move |(estimate, decided)| [id, round, estimate, decided])
+    })
+}
+
+#[test]
+fn exactly_the_states_in_range_are_members() {
+    let mut accepted = 0;
+    for rest in small() {
+        let [id, round, estimate, decided] = rest;
+        let state = [4, 3, id, round, estimate, decided];
+        let member = match Member::from_bytes(state) {
+            Err(refusal) => {
+                assert!(!in_range(rest), "{state:?}");
+                assert_eq!(refusal, Refusal::State);
+                continue;
+            }
+            Ok(member) => member,
+        };
+        assert!(in_range(rest), "{state:?}");
+        accepted += 1;
+        assert_eq!(member.to_bytes(), state);
+        assert_eq!(bytes::say(&state), Ok(member.say().into()));
+        let shown = [member.n(), member.t(), member.id(), member.round()];
+        assert_eq!(shown, [4, 3, id.into(), round.into()]);
+        assert_eq!(u8::from(member.estimate()), estimate);
+        let round = member.decision().map(|made| made.round);
+        assert_eq!(round.unwrap_or(0), decided.into());
+    }
+    // Four numbers and two estimates, with four rounds undecided, and two after a decision in 2 or 3 and one after 4.
+    assert_eq!(accepted, 4 * 2 * (4 + 2 + 2 + 1));
+}
+
+/// Runs in which process 3 crashes in round 2 and process 1 in any round, with any reach, among more that are refused.
+#[test]
+fn a_report_has_the_numbers_of_the_call_on_bytes() {
+    for (crash, reach) in (0..=5).flat_map(|crash| (0..=16).map(move |reach| (crash, reach))) {
+        let (crashes, reaches) = ([crash, 0, 2, 0], [reach, 0, 0b1000, 0]);
+        let (mut decisions, mut rounds) = ([9; 4], [9; 4]);
+        let (d, r) = (&mut decisions, &mut rounds);
+        let counts = bytes::simulate(4, 3, &[1; 4], &crashes, &reaches, d, r);
+        let report = match simulate(4, 3, &[Vote::Commit; 4], &crashes, &reaches) {
+            Ok(report) => report,
+            Err(refusal) => {
+                assert_eq!(counts, Err(refusal.number()));
+                continue;
+            }
+        };
+        assert_eq!(counts, Ok(report.counts));
+        let numbers = |made: &Option<Decided>| match made {
+            None => (NO_DECISION, 0),
+            Some(made) => (made.decision.into(), made.round),
+        };
+        let reported: Vec<(u8, usize)> = report.decisions.iter().map(numbers).collect();
+        let written = decisions.into_iter().zip(rounds.map(usize::from));
+        assert_eq!(reported, written.collect::<Vec<(u8, usize)>>());
+    }
+}
+
+#[test]
+fn bytes_go_to_types_and_back() {
+    for byte in 0..=255 {
+        match Vote::try_from(byte) {
+            Ok(vote) => assert!(byte <= 1 && u8::from(vote) == byte),
+            Err(refusal) => assert!(byte > 1 && refusal == Refusal::Vote),
+        }
+        match Code::try_from(byte) {
+            Ok(code) => assert!(byte <= 4 && u8::from(code) == byte),
+            Err(refusal) => assert!(byte > 4 && refusal == Refusal::Code),
+        }
+        if let Some(refusal) = Refusal::from_number(byte) {
+            assert_eq!(refusal.number(), byte);
+        }
+    }
+    assert_eq!([Decision::Abort, Decision::Commit].map(u8::from), [0, 1]);
+}
+
+/// All refusals, in the order of their numbers.
+fn refusals() -> Vec<Refusal> {
+    (0..=255).filter_map(Refusal::from_number).collect()
+}
+
+/// The header has the same numbers, with the same names in its own spelling.
+#[test]
+fn there_is_a_refusal_for_every_number_of_the_header() {
+    let header = include_str!("../../fcwfa.h");
+    let names: BTreeSet<(u8, String)> = header
+        .lines()
+        .filter_map(|line| line.strip_prefix("#define FCWFA_REFUSED_"))
+        .filter_map(|line| line.split_once(' '))
+        .map(|(name, number)| (number.trim().parse().unwrap(), name.replace('_', "")))
+        .collect();
+    let known = refusals()
+        .into_iter()
+        .map(|refusal| (refusal.number(), format!("{refusal:?}").to_uppercase()));
+    assert_eq!(names, known.collect());
+}
+
+#[test]
+fn the_words_of_a_refusal_have_its_number_and_are_its_own() {
+    let mut words = BTreeSet::new();
+    for refusal in refusals() {
+        let printed = refusal.to_string();
+        let start = format!("refused with {}: ", refusal.number());
+        let meaning = printed.strip_prefix(&start).expect("the number is printed");
+        assert!(
+            !meaning.is_empty() && words.insert(meaning.to_string()),
+            "{printed}"
+        );
+    }
+    assert_eq!(
+        Refusal::Crash.to_string(),
+        "refused with 5: a crash round is above t + 1"
+    );
+    let largest = format!("to {LARGEST}");
+    assert!(Refusal::N.to_string().ends_with(&largest));
+}
+
+#[test]
+fn values_print_as_words() {
+    let printed = [Vote::Abort, Vote::Commit].map(|vote| vote.to_string());
+    assert_eq!(printed, ["abort", "commit"]);
+    let made = Decided {
+        decision: Decision::Commit,
+        round: 2,
+    };
+    assert_eq!(made.to_string(), "commit in round 2");
+    let words = [
+        "nothing",
+        "estimate abort",
+        "estimate commit",
+        "decided abort",
+        "decided commit",
+    ];
+    for (byte, words) in (0..).zip(words) {
+        assert_eq!(Code::try_from(byte).unwrap().to_string(), words);
+    }
+}
+
+#[test]
+fn a_decided_code_names_its_decision() {
+    let decisions = [0, 1, 2, 3, 4].map(|byte| Code::try_from(byte).unwrap().decision());
+    let made = [Some(Decision::Abort), Some(Decision::Commit)];
+    assert_eq!(decisions, [None, None, None, made[0], made[1]]);
+}
