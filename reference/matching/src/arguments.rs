@@ -5,11 +5,47 @@ use std::path::PathBuf;
 /// What the program says when its arguments are wrong.
 pub const USAGE: &str = "\
 matching [--bench PATH] [--seed S]... [--valid N] [--damaged N] [--tables N] [--members N] [--skip-small]
-matching --self-test";
+matching --self-test
+matching --help";
+
+/// The seed if none is given.
+const FIRST_SEED: u64 = 1;
+
+/// What the program says when it is asked for help.
+pub fn help() -> String {
+    let default = Arguments::default();
+    let (valid, damaged) = (default.valid, default.damaged);
+    let (tables, members) = (default.tables, default.members);
+    format!(
+        "\
+Puts the same input through the proved code and through the reference, and compares the answers.
+
+{USAGE}
+
+  --bench PATH   the compiled bench, for the texts; without it they are skipped
+  --seed S       fixes everything random; all of it is done for each seed that is given [{FIRST_SEED}]
+  --valid N      how many texts of accepted schedules [{valid}]
+  --damaged N    how many damaged texts that are refused [{damaged}]
+  --tables N     how many calls on tables [{tables}]
+  --members N    how many calls to a member [{members}]
+  --skip-small   skip the schedules with n = 4 and t = 3 [all of them are compared]
+  --self-test    show that differences are found, in place of the matching
+  --help, -h     print this
+
+What stands in brackets holds if the flag is not given. A count of 0 skips its part.
+
+The last line is 'compared C, differ D'. The exit status is 0 if something was compared, D is 0 and there is no fault, such
+as a refusal number that was never met; with --self-test, if every planted difference was found. It is 1 otherwise, and 2
+for wrong arguments.
+"
+    )
+}
 
 /// The arguments with their defaults filled in.
 #[derive(Clone, Debug, PartialEq, Eq)]
 pub struct Arguments {
+    /// Print the help, in place of everything else.
+    pub help: bool,
     /// Show that differences are found, in place of the matching.
     pub self_test: bool,
     /// The compiled `bench`; without it the texts are skipped.
@@ -31,6 +67,7 @@ pub struct Arguments {
 impl Default for Arguments {
     fn default() -> Arguments {
         Arguments {
+            help: false,
             self_test: false,
             bench: None,
             seeds: Vec::new(),
@@ -43,10 +80,15 @@ impl Default for Arguments {
     }
 }
 
-/// Reads the arguments after the program's name.
+/// Reads the arguments after the program's name. Whatever else is given, a call for help is answered.
 pub fn parse(given: impl Iterator<Item = String>) -> Result<Arguments, String> {
     let mut arguments = Arguments::default();
-    let mut given = given.peekable();
+    let given: Vec<String> = given.collect();
+    if given.iter().any(|name| name == "--help" || name == "-h") {
+        arguments.help = true;
+        return Ok(arguments);
+    }
+    let mut given = given.into_iter().peekable();
     if given.next_if(|name| name == "--self-test").is_some() {
         arguments.self_test = true;
         return match given.next() {
@@ -63,7 +105,7 @@ pub fn parse(given: impl Iterator<Item = String>) -> Result<Arguments, String> {
         set(&mut arguments, &name, &value)?;
     }
     if arguments.seeds.is_empty() {
-        arguments.seeds.push(1);
+        arguments.seeds.push(FIRST_SEED);
     }
     Ok(arguments)
 }
@@ -108,6 +150,7 @@ mod tests {
         let line =
             "--bench x --seed 5 --valid 1 --seed 6 --damaged 2 --tables 3 --members 4 --skip-small";
         let expected = Arguments {
+            help: false,
             self_test: false,
             bench: Some(PathBuf::from("x")),
             seeds: vec![5, 6],
@@ -125,6 +168,28 @@ mod tests {
         for line in ["--seed", "--seed x", "--more 1", "--self-test --seed 1"] {
             assert!(parsed(line).is_err(), "{line}");
         }
-        assert!(parsed("--self-test").is_ok_and(|arguments| arguments.self_test));
+        assert!(parsed("--self-test").unwrap().self_test);
+    }
+
+    #[test]
+    fn help_is_given_whatever_else_is_asked() {
+        for line in ["--help", "-h", "--self-test -h", "--seed 1 --help --more"] {
+            assert!(parsed(line).unwrap().help, "{line}");
+        }
+        assert!(!parsed("--self-test").unwrap().help);
+    }
+
+    #[test]
+    fn the_help_has_every_flag_and_its_default() {
+        let help = help();
+        for line in USAGE.lines() {
+            for flag in line.split(' ').filter(|word| word.contains("--")) {
+                let flag = flag.trim_matches(&['[', ']'][..]);
+                assert!(help.contains(&format!("\n  {flag}")), "{flag}");
+            }
+        }
+        for default in ["[1]", "[4000]", "[200000]", "[1000000]"] {
+            assert!(help.contains(default), "{default}");
+        }
     }
 }

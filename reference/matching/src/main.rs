@@ -3,7 +3,7 @@
 use std::env;
 use std::process::ExitCode;
 
-use matching::arguments::{parse, USAGE};
+use matching::arguments::{help, parse, USAGE};
 use matching::{plants, whole};
 
 fn main() -> ExitCode {
@@ -14,6 +14,10 @@ fn main() -> ExitCode {
             return ExitCode::from(2);
         }
     };
+    if arguments.help {
+        print!("{}", help());
+        return ExitCode::SUCCESS;
+    }
     if arguments.self_test {
         return ExitCode::from(plants::self_test());
     }

@@ -3,6 +3,7 @@
 //! `speed` compares the limit's answers with the reference's, then measures all in one run on the same schedules. `speed --check` only
 //! compares. docs/PERFORMANCE.md says how to read what is printed.
 
+mod arguments;
 mod limit;
 mod measure;
 mod schedules;
@@ -12,6 +13,8 @@ use std::process::ExitCode;
 
 use matching::small;
 use matching::tables::compare;
+
+use arguments::{help, parse, Task, USAGE};
 
 /// How many random calls the limit is compared on, accepted and refused ones.
 const CALLS: u64 = 200_000;
@@ -35,19 +38,22 @@ fn limit_is_right() -> bool {
 }
 
 fn main() -> ExitCode {
-    let arguments: Vec<String> = std::env::args().skip(1).collect();
-    let only_check = match arguments.as_slice() {
-        [] => false,
-        [flag] if flag == "--check" => true,
-        _ => {
-            eprintln!("usage: speed [--check]");
+    let given: Vec<String> = std::env::args().skip(1).collect();
+    let task = match parse(&given) {
+        Ok(task) => task,
+        Err(words) => {
+            eprintln!("{words}\n{USAGE}");
             return ExitCode::from(2);
         }
     };
+    if task == Task::Help {
+        print!("{}", help());
+        return ExitCode::SUCCESS;
+    }
     if !limit_is_right() {
         return ExitCode::FAILURE;
     }
-    if !only_check {
+    if task == Task::Measure {
         tables::by_size();
         tables::by_crashes_borne();
         tables::by_row();
