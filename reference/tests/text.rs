@@ -10,9 +10,7 @@ const CASE_A: &str =
 
 /// Refusal number and line of a text, and its line as printed.
 fn refused(text: &[u8]) -> (u8, usize, Vec<u8>) {
-    let Err(Refused { refusal, line: k }) = read(text) else {
-        panic!("an accepted text");
-    };
+    let Refused { refusal, line: k } = read(text).expect_err("the text is refused");
     let number = refusal.number();
     let mut printed = format!("refused line\n{number} {k}\n").into_bytes();
     printed.extend_from_slice(line(text, k));

@@ -14,7 +14,7 @@ fn texts() -> Vec<PathBuf> {
     let entries = fs::read_dir(directory).expect("the directory is there");
     let paths = entries.map(|entry| entry.expect("the entry is there").path());
     let texts: Vec<PathBuf> = paths
-        .filter(|path| path.extension().is_some_and(|end| end == "text"))
+        .filter(|path| path.extension().map_or(false, |end| end == "text"))
         .collect();
     assert!(texts.len() >= 188, "only {} texts", texts.len());
     texts

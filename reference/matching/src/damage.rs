@@ -206,18 +206,23 @@ fn spaces(random: &mut Random, _: &Schedule, text: &mut Vec<u8>) {
 /// Changes a field of line k of a text, fields counted from 0.
 fn change_field(text: &mut Vec<u8>, k: usize, field: usize, change: impl FnOnce(&mut Vec<u8>)) {
     change_lines(text, |lines| {
-        let Some(line) = lines.get_mut(k - 1) else {
-            return;
-        };
-        let lf = line.pop_if(|byte| *byte == b'\n');
-        let parts = line.split(|byte| *byte == b' ');
-        let mut parts: Vec<Vec<u8>> = parts.map(<[u8]>::to_vec).collect();
-        if let Some(part) = parts.get_mut(field) {
-            change(part);
+        if let Some(line) = lines.get_mut(k - 1) {
+            change_field_of(line, field, change);
         }
-        *line = parts.join(&b' ');
-        line.extend(lf);
     });
+}
+
+/// Changes a field of a line; an LF at its end stays.
+fn change_field_of(line: &mut Vec<u8>, field: usize, change: impl FnOnce(&mut Vec<u8>)) {
+    let end = line.strip_suffix(b"\n").unwrap_or(line).len();
+    let lf = line.split_off(end);
+    let parts = line.split(|byte| *byte == b' ');
+    let mut parts: Vec<Vec<u8>> = parts.map(<[u8]>::to_vec).collect();
+    if let Some(part) = parts.get_mut(field) {
+        change(part);
+    }
+    *line = parts.join(&b' ');
+    line.extend(lf);
 }
 
 /// Writes a number into a field of line k.

@@ -28,7 +28,7 @@ pub fn compare(step: usize, simulate: Simulate) -> Outcome {
         let mut case = first * COUNT;
         for_each_from(&mut schedule, 2, &choices, &mut |schedule| {
             case += 1;
-            if (case as usize).is_multiple_of(step) {
+            if case as usize % step == 0 {
                 compare_one(outcome, case, schedule, simulate);
             }
         });

@@ -202,15 +202,14 @@ fn crash_above_last_round(random: &mut Random, call: &mut Call) {
 fn wrong_reach(random: &mut Random, call: &mut Call) {
     let schedule = &mut call.schedule;
     let length = schedule.reaches.len().min(LARGEST);
-    let Some(place) = random.place(length) else {
-        return;
-    };
-    schedule.reaches[place] |= match random.below(4) {
-        0 => bit(place + 1),
-        1 => bit((schedule.n % LARGEST) + 1),
-        2 => bit(random.within(1..=LARGEST)),
-        _ => bit(LARGEST),
-    };
+    if let Some(place) = random.place(length) {
+        schedule.reaches[place] |= match random.below(4) {
+            0 => bit(place + 1),
+            1 => bit((schedule.n % LARGEST) + 1),
+            2 => bit(random.within(1..=LARGEST)),
+            _ => bit(LARGEST),
+        };
+    }
 }
 
 fn any_reach(random: &mut Random, call: &mut Call) {
