@@ -1,5 +1,5 @@
-//! Says where the static libraries are: in the folder that `FCWFA_LIB_DIR` names, or where `rt staticlib` writes them. If one of them is not
-//! there, the build ends with the command that makes it.
+//! Says where the static libraries are: in the folder that `FCWFA_LIB_DIR` names, or where `rt staticlib` writes them. If one of them is
+//! not there, the build ends and names the command that makes it.
 use std::env::var_os;
 use std::path::{Path, PathBuf};
 use std::process::exit;

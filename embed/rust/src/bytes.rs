@@ -1,8 +1,8 @@
 //! The calls on bare bytes and numbers, as `embed/fcwfa.h` has them, for programs that carry or test any bytes.
 //!
-//! Each call takes any values. It does its work, or answers the number of the first question whose answer is no and leaves everything it was
-//! lent as it was; [`Refusal::from_number`](crate::Refusal::from_number) has the words for a number. The contract at the top of this crate
-//! holds for these calls too.
+//! Each call takes any values. It does its work, or answers the number of the first question whose answer is no and leaves everything it
+//! was lent as it was; [`Refusal::from_number`](crate::Refusal::from_number) has the words for a number. The contract at the top of this
+//! crate is that of these calls too.
 //!
 //! Everything unsafe in this crate is here.
 #![allow(unsafe_code)]
@@ -51,8 +51,8 @@ fn accepted<T>(number: u8, value: T) -> Result<T, u8> {
     }
 }
 
-/// The state of a new member `id` of n, from 4 to [`LARGEST`](crate::LARGEST), with t crashes to bear and its vote, 0 (abort) or 1 (commit).
-/// Refusals: 1, 2, 10, 4.
+/// The state of a new member `id`, from 1, of a cluster of n, from 4 to [`LARGEST`](crate::LARGEST), that bears t crashes, with its vote,
+/// 0 (abort) or 1 (commit). Refusals: 1, 2, 10, 4.
 pub fn open(n: usize, t: usize, id: usize, vote: u8) -> Result<State, u8> {
     let mut state = [0; 6];
     // SAFETY: the pointer is good for the six bytes that the function writes.
@@ -76,8 +76,8 @@ pub fn hear(state: &mut State, row: &[u8]) -> Result<(), u8> {
     accepted(number, ())
 }
 
-/// Runs a whole cluster to its end: see [`simulate`](crate::simulate). `decisions` gets 0, 1 or [`NO_DECISION`] for each process, and `rounds`
-/// the round of it, 0 for none.
+/// Runs a whole cluster to its end: see [`simulate`](crate::simulate). `decisions` gets 0, 1 or [`NO_DECISION`] for each process, and
+/// `rounds` the round of it, 0 for none.
 ///
 /// Refusals: 1, 2, 3 (all five tables are n long), 4, 5, 6 for each process in turn, 7.
 pub fn simulate(

@@ -1,7 +1,7 @@
 //! One process of FCWFA, the fast-commit, weakly fast-abort atomic commit protocol, and the simulator of a whole cluster.
 //!
-//! The work is done by the proved functions of `libfcwfa_member.a` and `libfcwfa_simulator.a`; this crate only gives their numbers types and
-//! lends them slices. A call does its work, or answers a [`Refusal`] and leaves everything it was lent as it was. Every type says which
+//! The work is done by the proved functions of `libfcwfa_member.a` and `libfcwfa_simulator.a`; this crate only gives their numbers types
+//! and lends them slices. A call does its work, or answers a [`Refusal`] and leaves everything it was lent as it was. Every type says which
 //! numbers it stands for; they are those of `embed/fcwfa.h`. The module [`bytes`] has the same calls on the bare numbers.
 //!
 //! Four members vote to commit, every message arrives, and all of them commit in round 2:
@@ -33,26 +33,27 @@
 //!
 //! **(a) The network and the clock.** Rounds are in lockstep. If a process completes a round (hears its row), its message of that round
 //! arrives in that round, unchanged, at every process that completes it. A process that has not stopped and does not complete a round has
-//! crashed: it takes no further part and never comes back under its number in this transaction. At most t crash. So a [`Code::Nothing`] in a
-//! row says that the process at that place has crashed without completing this round, or that it said "decided" in an earlier round and has
-//! stopped. It never stands for a message that is late or lost: `tests/outside_the_contract.rs` has a run in which two members then commit
-//! and two abort, and no call is refused.
+//! crashed: it takes no further part and never comes back under its number in this transaction. At most t crash. So a [`Code::Nothing`] in
+//! a row says that the process at that place has crashed without completing this round, or that it said "decided" in an earlier round and
+//! has stopped. It never stands for a message that is late or lost: `tests/outside_the_contract.rs` has a run in which two members then
+//! commit and two abort, and no call is refused.
 //!
-//! **(b) The loop of a round.** [`Member::say`], and leave the loop at [`Code::Nothing`]: the member has stopped. Send the code to all. Wait
-//! until the message of each other process has come, or it is certain that its sender crashed before it completed this round, or it stopped.
-//! [`Member::hear`] the row. A [`Member::decision`] is final; go on with the loop, for the others must hear of it in the next round.
+//! **(b) The loop of a round.** [`Member::say`], and leave the loop at [`Code::Nothing`]: the member has stopped. Send the code to all.
+//! Wait until the message of each other process has come, or it is certain that its sender crashed before it completed this round, or it
+//! stopped. [`Member::hear`] the row. A [`Member::decision`] is final; go on with the loop, for the others must hear of it in the next
+//! round.
 //!
 //! **(c) A state on disk** ([`Member::to_bytes`], [`Member::from_bytes`]) is for inspection. Going on from it after a restart is outside of
 //! what is promised: that process has crashed. So is playing two copies of a member.
 //!
-//! **(d) After a refusal** the member is as it was, and a decision that was made before stands. [`Refusal::State`] (the bytes are no state of
-//! a member), [`Refusal::Stopped`] (it needs no more rows), [`Refusal::RowLength`] and [`Refusal::OwnPlace`] (the row was put together
+//! **(d) After a refusal** the member is as it was, and a decision that was made before stands. [`Refusal::State`] (the bytes are no state
+//! of a member), [`Refusal::Stopped`] (it needs no more rows), [`Refusal::RowLength`] and [`Refusal::OwnPlace`] (the row was put together
 //! wrongly) are the caller's faults, and so is [`Refusal::Code`] (a byte is no code) unless the byte came so over the wire. That,
 //! [`Refusal::Early`] and [`Refusal::Both`] show that (a) is broken or a member is faulty; agreement is then not promised for this
-//! transaction. Never invent or repair a row. A member that cannot go on counts as crashed for the rest of the transaction: it sends nothing
-//! more, hears no more rows and does not decide by itself.
+//! transaction. Never invent or repair a row: put no [`Code::Nothing`] for a byte that is no code. A member that cannot go on counts as
+//! crashed for the rest of the transaction: it sends nothing more, hears no more rows and does not decide by itself.
 #![warn(missing_docs)]
-// The one place for it is the module `bytes`.
+// `bytes` alone may be unsafe.
 #![deny(unsafe_code)]
 
 pub mod bytes;

@@ -1,10 +1,10 @@
 //! One process of a transaction.
 
 use crate::bytes::{self, State};
-use crate::refusal::unknown;
 use crate::{Code, Decided, Decision, Refusal, Vote};
 
-/// A member: one process of a transaction. Its state is always in range, as it was opened, heard rows, or came from bytes that were asked.
+/// A member: one process of a transaction. It was opened, or read from bytes that are a state, and has heard rows since, so it is always in
+/// range, and what it shows can be believed.
 #[derive(Clone, Copy, Debug, PartialEq, Eq, Hash)]
 pub struct Member {
     state: State,
@@ -39,7 +39,7 @@ impl Member {
     pub fn say(&self) -> Code {
         match bytes::say(&self.state) {
             Ok(code) => Code::answered(code),
-            Err(number) => unknown("refusal of a member in range", number),
+            Err(number) => panic!("the library refused a member in range with {number}"),
         }
     }
 

@@ -33,15 +33,15 @@ impl Counts {
 pub struct Report {
     /// The counts.
     pub counts: Counts,
-    /// What each process decided, that of process i at place i - 1; none if it crashed before.
+    /// What each process decided, process i at place i - 1; `None` for one that crashed before it decided.
     pub decisions: Vec<Option<Decided>>,
 }
 
-/// Runs a whole cluster of n, from 4 to [`LARGEST`], that bears t crashes to its end. Entry i - 1 of each table is process i's: its vote; its
-/// crash round, 0 (never) or 1 to t + 1; and its reach, the [`Set`] of processes that still get the message of the crash round.
+/// Runs a whole cluster of n, from 4 to [`LARGEST`], that bears t crashes, to its end. Entry i - 1 of each table is process i's: its vote;
+/// its crash round, 0 (never) or 1 to t + 1; and its reach, the [`Set`] of processes that still get the message of the crash round.
 ///
-/// Refusals: [`Refusal::N`], [`Refusal::T`], [`Refusal::Length`], then for each process in turn [`Refusal::Crash`] and [`Refusal::Reach`], and
-/// last [`Refusal::Crashes`].
+/// Refusals: [`Refusal::N`], [`Refusal::T`], [`Refusal::Length`], then for each process in turn [`Refusal::Crash`] and [`Refusal::Reach`],
+/// and last [`Refusal::Crashes`].
 pub fn simulate(
     n: usize,
     t: usize,

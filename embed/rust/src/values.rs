@@ -131,7 +131,8 @@ impl Code {
 impl TryFrom<u8> for Code {
     type Error = Refusal;
 
-    /// The code that a byte from the wire stands for; above 4 it is [`Refusal::Code`].
+    /// The code that a byte from the wire stands for; above 4 it is [`Refusal::Code`]. Put no [`Code::Nothing`] in the place of such a
+    /// byte: see (d) of the contract.
     fn try_from(byte: u8) -> Result<Code, Refusal> {
         match byte {
             0 => Ok(Code::Nothing),
