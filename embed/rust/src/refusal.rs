@@ -2,6 +2,8 @@
 
 use std::fmt;
 
+use crate::LARGEST;
+
 /// Why a call was refused: the first question whose answer is no. Other things may be wrong too.
 ///
 /// It prints as its number and what it means: `refused with 5: a crash round is above t + 1`. Later versions may have more.
@@ -74,10 +76,16 @@ impl Refusal {
         Refusal::from_number(number).unwrap_or_else(|| unknown("refusal number", number))
     }
 
-    /// What is so.
-    fn words(self) -> &'static str {
-        match self {
-            Refusal::N => "n, the number of processes, is not from 4 to 32",
+    /// Writes what is so.
+    fn write_words(self, f: &mut fmt::Formatter<'_>) -> fmt::Result {
+        f.write_str(match self {
+            Refusal::N => {
+                return write!(
+                    f,
+                    "n, the number of processes, is not from 4 to {}",
+                    LARGEST
+                )
+            }
             Refusal::T => "t, the number of crashes to bear, is not from 3 to n - 1",
             Refusal::Length => "a table is not n long",
             Refusal::Vote => "a vote is not 0 or 1",
@@ -94,13 +102,14 @@ impl Refusal {
             Refusal::OwnPlace => "the row's own place is not what the member says now",
             Refusal::Early => "a decided message stands in a row of round 1 or 2",
             Refusal::Both => "both decided messages, abort and commit, stand in the row",
-        }
+        })
     }
 }
 
 impl fmt::Display for Refusal {
     fn fmt(&self, f: &mut fmt::Formatter<'_>) -> fmt::Result {
-        write!(f, "refused with {}: {}", self.number(), self.words())
+        write!(f, "refused with {}: ", self.number())?;
+        self.write_words(f)
     }
 }
 

@@ -108,6 +108,15 @@ fn refusals() -> Vec<Refusal> {
     (0..=255).filter_map(Refusal::from_number).collect()
 }
 
+/// Header and crate are of one version, and of one size of clusters.
+#[test]
+fn the_header_is_of_this_version() {
+    let header = include_str!("../../fcwfa.h");
+    let version = env!("CARGO_PKG_VERSION");
+    assert!(header.contains(&format!("#define FCWFA_VERSION \"{version}\"\n")));
+    assert!(header.contains(&format!("#define FCWFA_LARGEST_N {LARGEST}\n")));
+}
+
 /// The header has the same numbers, with the same names in its own spelling.
 #[test]
 fn there_is_a_refusal_for_every_number_of_the_header() {
