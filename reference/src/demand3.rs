@@ -1,5 +1,6 @@
 //! What the product promises for every accepted schedule, tested on a finished run. The terms "completes a round",
-//! "decides" and "completes round r undecided" are those of document 01, "Who hears whom".
+//! "decides" and "completes round r undecided" are those of document 01, "Who hears whom"; the message bound is that of
+//! document 02, K1.
 
 use crate::run::{Run, NONE};
 use crate::schedule::Schedule;
@@ -24,10 +25,11 @@ pub fn bound(schedule: &Schedule) -> usize {
     }
 }
 
-/// The largest number of messages.
+/// The largest number of messages. Document 02, K1: "The message bound tightens to n x (n - 1) x the smaller of B + 1
+/// and t + 1."
 pub fn message_limit(schedule: &Schedule) -> usize {
     let rounds = (bound(schedule) + 1).min(schedule.t + 1);
-    schedule.n * schedule.n * rounds
+    schedule.n * (schedule.n - 1) * rounds
 }
 
 /// Gives the promise's words if it doesn't hold.
@@ -71,7 +73,7 @@ fn round_b(schedule: &Schedule, run: &Run) -> Result<(), String> {
     })
 }
 
-/// The messages are at most n * n * min(B + 1, t + 1).
+/// The messages are at most n * (n - 1) * min(B + 1, t + 1).
 fn message_bound(schedule: &Schedule, run: &Run) -> Result<(), String> {
     let (sent, limit) = (run.counts.messages, message_limit(schedule));
     promise(sent <= limit, || {

@@ -1,6 +1,7 @@
-//! The commit bench and its members, written a second time from document 01 alone.
+//! The commit bench and its members, written a second time from document 01, and from document 02 as far as its
+//! requests have landed: so far K1. Where document 02 changes document 01, document 02 stands.
 //!
-//! The modules follow the document in its order. Processes and rounds are numbered from 1, as there; the entry of
+//! The modules follow document 01 in its order. Processes and rounds are numbered from 1, as there; the entry of
 //! process i in a table stands at place i - 1.
 //!
 //! The largest cluster, the type of a set of processes and the longest text stand here and nowhere else; what follows

@@ -1,4 +1,4 @@
-//! The run of a schedule (document 01, "Who hears whom").
+//! The run of a schedule (document 01, "Who hears whom"; what a sender adds to the messages, document 02, K1).
 
 use crate::member::{Member, NOTHING};
 use crate::questions::Refusal;
@@ -20,7 +20,7 @@ pub struct Counts {
     pub first: usize,
     /// The largest decided round.
     pub last: usize,
-    /// The messages of all rounds and senders.
+    /// The messages on the wire, of all rounds and senders: a process's copy to itself is not one.
     pub messages: usize,
 }
 
@@ -115,13 +115,16 @@ fn rows_of_round(schedule: &Schedule, members: &[Member], r: usize) -> Grid {
     grid
 }
 
-/// The messages that all senders add in round r.
+/// The messages that all senders add in round r. Document 02, K1: "A completing sender that says something now adds
+/// n - 1. A crash adds the ones of its reach as before." Before, in document 01: "a crashing sender adds the ones of
+/// its reach if it says something; all others add 0".
 fn messages_of_round(schedule: &Schedule, members: &[Member], r: usize) -> usize {
     let added = |sender: &Member| {
         if sender.says() == NOTHING {
             0
         } else if schedule.completes(sender.own, r) {
-            schedule.n
+            // The copy to itself never touches the wire.
+            schedule.n - 1
         } else if schedule.crash(sender.own) == r {
             schedule.reaches[sender.own - 1].count_ones() as usize
         } else {

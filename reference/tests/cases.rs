@@ -1,4 +1,9 @@
 //! The marked schedules of document 01, A to K, and its five refused ones.
+//!
+//! The messages are worked again, as document 02 asks with K1: with n = 4 a completing sender that says something adds
+//! 3. So a round with three of them is 9, and what a crash adds to its round is written beside: 9 + 1. A round that is
+//! left out of a sum is one in which nobody says anything any more: a member that decides in d says so in d + 1 and is
+//! stopped after it.
 
 use reference::questions::Refusal;
 use reference::report::answer;
@@ -46,70 +51,91 @@ fn expect(schedule: &Schedule, expected: &str, f: usize, messages: usize) {
 
 #[test]
 fn case_a_no_crash() {
-    expect(&schedule(&[]), "1@2 1@2 1@2 1@2", 0, 48);
+    // All four send in rounds 1, 2 and 3: 12 + 12 + 12.
+    expect(&schedule(&[]), "1@2 1@2 1@2 1@2", 0, 36);
 }
 
 #[test]
 fn case_b_process_1_votes_0() {
     let mut schedule = schedule(&[]);
     schedule.votes[0] = 0;
-    expect(&schedule, "0@2 0@2 0@2 0@2", 0, 48);
+    // As A: 12 + 12 + 12.
+    expect(&schedule, "0@2 0@2 0@2 0@2", 0, 36);
 }
 
 #[test]
 fn case_c() {
-    expect(&schedule(&[(1, 1, "0000")]), "- 0@2 0@2 0@2", 1, 36);
+    // Round 1: three complete it, and the crash reaches nobody: 9 + 0. Then 9 in each of rounds 2 and 3.
+    expect(&schedule(&[(1, 1, "0000")]), "- 0@2 0@2 0@2", 1, 27);
 }
 
 #[test]
 fn case_d() {
-    expect(&schedule(&[(1, 1, "0100")]), "- 0@3 0@3 0@3", 1, 49);
+    // Round 1: 9 + 1. They decide in round 3, so 9 in each of rounds 2, 3 and 4.
+    expect(&schedule(&[(1, 1, "0100")]), "- 0@3 0@3 0@3", 1, 37);
 }
 
 #[test]
 fn case_e() {
     let crashes = [(1, 1, "0110"), (4, 2, "0100"), (2, 3, "0000")];
-    expect(&schedule(&crashes), "- - 1@4 -", 3, 31);
+    // Round 1: processes 2, 3 and 4 complete it, 9 + 2. Round 2: processes 2 and 3, 6 + 1. Round 3: process 3 alone,
+    // 3 + 0. Round 4: process 3 again, which decides only there, 3.
+    expect(&schedule(&crashes), "- - 1@4 -", 3, 24);
 }
 
 #[test]
 fn case_f() {
     let crashes = [(1, 1, "0110"), (4, 2, "0100"), (2, 3, "0010")];
-    expect(&schedule(&crashes), "- - 0@3 -", 3, 32);
+    // As E, but the crash of round 3 reaches one: 9 + 2, 6 + 1, 3 + 1, and 3 in round 4 for "decided".
+    expect(&schedule(&crashes), "- - 0@3 -", 3, 25);
 }
 
 #[test]
 fn case_g() {
     let crashes = [(1, 1, "0110"), (4, 2, "0100")];
-    expect(&schedule(&crashes), "- 0@3 0@3 -", 2, 39);
+    // Rounds 1 and 2 as E: 9 + 2, 6 + 1. Then processes 2 and 3 send on: 6 in round 3, and 6 in round 4 for "decided".
+    expect(&schedule(&crashes), "- 0@3 0@3 -", 2, 30);
 }
 
 #[test]
 fn case_h() {
-    expect(&schedule(&[(1, 3, "0000")]), "1@2 1@2 1@2 1@2", 1, 44);
+    // 12 in each of rounds 1 and 2. In round 3 process 1 crashes while it says "decided", unheard: 9 + 0.
+    expect(&schedule(&[(1, 3, "0000")]), "1@2 1@2 1@2 1@2", 1, 33);
 }
 
 #[test]
 fn case_i() {
-    expect(&schedule(&[(1, 2, "0111")]), "- 1@2 1@2 1@2", 1, 43);
+    // 12 in round 1, 9 + 3 in round 2, and 9 in round 3. A full reach is as much as a completing sender adds.
+    expect(&schedule(&[(1, 2, "0111")]), "- 1@2 1@2 1@2", 1, 33);
 }
 
 #[test]
 fn case_j() {
-    expect(&schedule(&[(1, 4, "0000")]), "1@2 1@2 1@2 1@2", 1, 48);
+    // As A, for process 1 is stopped in its crash round: 12 + 12 + 12 + 0.
+    expect(&schedule(&[(1, 4, "0000")]), "1@2 1@2 1@2 1@2", 1, 36);
 }
 
 #[test]
 fn case_k() {
     let crashes = [(1, 1, "0000"), (2, 1, "0000"), (3, 1, "0000")];
-    expect(&schedule(&crashes), "- - - 0@2", 3, 12);
+    // Process 4 alone completes a round: 3 + 0 + 0 + 0 in round 1, and 3 in each of rounds 2 and 3.
+    expect(&schedule(&crashes), "- - - 0@2", 3, 9);
+}
+
+/// H and J with reaches: "A crash adds the ones of its reach as before" is, in document 01, "if it says something".
+#[test]
+fn a_crash_adds_its_reach_only_if_it_says_something() {
+    // H: 12, 12, and in round 3 the crash says "decided" to two: 9 + 2.
+    expect(&schedule(&[(1, 3, "0110")]), "1@2 1@2 1@2 1@2", 1, 35);
+    // J: 12, 12, 12, and in round 4 the crashing member is stopped: its reach of three adds 0.
+    expect(&schedule(&[(1, 4, "0111")]), "1@2 1@2 1@2 1@2", 1, 36);
 }
 
 #[test]
 fn case_d_report_byte_for_byte() {
     let text = "n t\n4 3\nid vote crash reach\n1 1 1 0100\n2 1 0 0000\n3 1 0 0000\n4 1 0 0000\n";
     let report =
-        "n t f first last messages\n4 3 1 2 3 49\nid decision round\n1 - 0\n2 0 3\n3 0 3\n4 0 3\n";
+        "n t f first last messages\n4 3 1 2 3 37\nid decision round\n1 - 0\n2 0 3\n3 0 3\n4 0 3\n";
     assert_eq!(write(&schedule(&[(1, 1, "0100")])), text.as_bytes());
     assert_eq!(answer(text.as_bytes()), report.as_bytes());
 }

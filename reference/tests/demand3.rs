@@ -1,6 +1,8 @@
-//! Each promise that `demand3` tests is seen to be broken by a run that breaks it.
+//! Each promise that `demand3` tests is seen to be broken by a run that breaks it, and the message bound is seen to be
+//! met with equality.
 
 use reference::demand3::{check, message_limit};
+use reference::questions::{MIN_CRASHES, SIZES};
 use reference::run::{run, Run};
 use reference::schedule::Schedule;
 
@@ -55,8 +57,36 @@ fn round_b() {
 #[test]
 fn message_bound() {
     let schedule = one_crash();
-    assert_eq!(message_limit(&schedule), 25 * 4);
-    broken(&schedule, "message bound", |run| run.counts.messages = 101);
+    // B = 3, and B + 1 = 4 is smaller than t + 1 = 5.
+    assert_eq!(message_limit(&schedule), 5 * 4 * 4);
+    broken(&schedule, "message bound", |run| run.counts.messages = 81);
+    let mut schedule = Schedule::quiet(4, 3);
+    schedule.crashes[..3].fill(1);
+    // B = 4, so t + 1 = 4 is smaller than B + 1 = 5.
+    assert_eq!(message_limit(&schedule), 4 * 3 * 4);
+    broken(&schedule, "message bound", |run| run.counts.messages = 49);
+}
+
+/// Case A: 36 messages, and 4 * 3 * 3 promised. So no smaller bound would hold, and one message more breaks it.
+#[test]
+fn case_a_meets_the_message_bound_with_equality() {
+    let schedule = Schedule::quiet(4, 3);
+    let messages = run(&schedule).expect("case A is accepted").counts.messages;
+    assert_eq!((messages, message_limit(&schedule)), (36, 36));
+    broken(&schedule, "message bound", |run| run.counts.messages += 1);
+}
+
+/// As case A, at every size: without a crash B = 2, and all n send to the n - 1 others in rounds 1, 2 and 3.
+#[test]
+fn every_run_without_a_crash_meets_the_message_bound_with_equality() {
+    for n in SIZES {
+        for t in MIN_CRASHES..n {
+            let schedule = Schedule::quiet(n, t);
+            let messages = run(&schedule).expect("it is accepted").counts.messages;
+            assert_eq!(messages, 3 * n * (n - 1), "n = {n}, t = {t}");
+            assert_eq!(message_limit(&schedule), messages, "n = {n}, t = {t}");
+        }
+    }
 }
 
 #[test]

@@ -24,11 +24,12 @@ fn refused(schedule: &Schedule, refusal: Refusal) {
 fn an_accepted_call_fills_the_answer_tables() {
     let (mut decisions, mut rounds) = ([7; 5], [9; 5]);
     let counts = simulate(&Schedule::quiet(5, 4), &mut decisions, &mut rounds);
+    // Five processes send to the four others in rounds 1, 2 and 3.
     let expected = Counts {
         f: 0,
         first: 1,
         last: 2,
-        messages: 75,
+        messages: 3 * 5 * 4,
     };
     assert_eq!(counts, Ok(expected));
     assert_eq!((decisions, rounds), ([1; 5], [2; 5]));

@@ -1,4 +1,4 @@
-//! Matches the proved bench and its members with the reference, which was written from document 01 alone.
+//! Matches the proved bench and its members with the reference, which was written from documents 01 and 02 alone.
 //!
 //! Each comparison takes the implementation under test as an argument, so that a wrong one can be passed to show that
 //! it is found.

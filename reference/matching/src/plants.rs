@@ -13,7 +13,7 @@ use crate::summary::{spelled, Summary};
 use crate::tables::{self, by_reference, Simulate};
 use crate::texts::{self, Program};
 use crate::whole::check_small_count;
-use crate::wrong::{self, Change, Hear, Wrong, RIGHT, TURNS};
+use crate::wrong::{self, Change, Hear, Wrong, COUNTS, RIGHT, TURNS};
 use crate::{demands, generate, small};
 
 /// The seed and the counts of the self-test. Every size comes up twice among the valid texts.
@@ -103,6 +103,7 @@ pub fn controls() -> Vec<Plant> {
 /// All plants.
 pub fn plants() -> Vec<Plant> {
     let mut plants = turns();
+    plants.extend(counts());
     plants.extend(in_texts());
     plants.extend(in_calls());
     plants.extend(in_promises());
@@ -135,6 +136,19 @@ fn turns() -> Vec<Plant> {
         ]
     };
     TURNS.into_iter().flat_map(of_turn).collect()
+}
+
+/// The wrong turns of counting messages, in every part where they are counted.
+fn counts() -> Vec<Plant> {
+    let of_turn = |(name, change): (&'static str, Change)| {
+        let simulate = wrong::simulate_by(Member::after, change);
+        [
+            valid(name, &wrong::program_by(Member::after, change)),
+            every_nth(name, &simulate),
+            called(name, &simulate),
+        ]
+    };
+    COUNTS.into_iter().flat_map(of_turn).collect()
 }
 
 fn in_texts() -> Vec<Plant> {
@@ -193,6 +207,8 @@ fn in_promises() -> Vec<Plant> {
         promised("a 1 decided in spite of a vote 0", right, commit_all),
         promised("round B completed undecided", right, late),
         promised("one message above the bound", right, above_bound),
+        promised("one message more without a crash", right, more_if_quiet),
+        promised("the own copy counted", right, COUNTS[0].1),
         promised("decided in round 3 after a vote 0", right, slow_abort),
         promised("decided in round 3 without a crash", right, slow_commit),
     ]
@@ -278,6 +294,14 @@ fn late(schedule: &Schedule, run: &mut Run) {
 fn above_bound(schedule: &Schedule, run: &mut Run) {
     if schedule.f() == schedule.t - 1 {
         run.counts.messages = message_limit(schedule) + 1;
+    }
+}
+
+/// Without a crash the bound is met with equality, as in case A: so this finds one that is too large, by however
+/// little, and the runs with nothing planted find one that is too small.
+fn more_if_quiet(schedule: &Schedule, run: &mut Run) {
+    if schedule.f() == 0 {
+        run.counts.messages += 1;
     }
 }
 

@@ -129,6 +129,68 @@ pub fn one_message_more(schedule: &Schedule, run: &mut Run) {
     }
 }
 
+/// Wrong turns of counting messages: three that document 02's K1 invites, and then "a crash adds the ones of its reach"
+/// taken without document 01's "if it says something".
+pub const COUNTS: [(&str, Change); 4] = [
+    ("the own copy counted", own_copy),
+    ("one copy less, n - 2", one_copy_less),
+    ("n - 1 for a crashing sender too", crash_as_completing),
+    ("the reach of a stopped sender counted", stopped_reach),
+];
+
+fn own_copy(schedule: &Schedule, run: &mut Run) {
+    run.counts.messages += completing_sayings(schedule, run);
+}
+
+fn one_copy_less(schedule: &Schedule, run: &mut Run) {
+    run.counts.messages -= completing_sayings(schedule, run);
+}
+
+fn crash_as_completing(schedule: &Schedule, run: &mut Run) {
+    for i in crashing(schedule) {
+        if schedule.crash(i) <= last_said(schedule, run, i) {
+            run.counts.messages += schedule.n - 1 - ones(schedule, i);
+        }
+    }
+}
+
+fn stopped_reach(schedule: &Schedule, run: &mut Run) {
+    for i in crashing(schedule) {
+        if schedule.crash(i) > last_said(schedule, run, i) {
+            run.counts.messages += ones(schedule, i);
+        }
+    }
+}
+
+/// The processes that crash.
+fn crashing(schedule: &Schedule) -> impl Iterator<Item = usize> + '_ {
+    (1..=schedule.n).filter(move |i| schedule.crash(*i) != 0)
+}
+
+/// The ones of the reach of process i.
+fn ones(schedule: &Schedule, i: usize) -> usize {
+    schedule.reaches[i - 1].count_ones() as usize
+}
+
+/// The last round in which process i says something, if it has not crashed before: the one after its decided round,
+/// and at most the last round of all.
+fn last_said(schedule: &Schedule, run: &Run, i: usize) -> usize {
+    let last = schedule.t + 1;
+    match usize::from(run.rounds[i - 1]) {
+        0 => last,
+        decided => last.min(decided + 1),
+    }
+}
+
+/// How often a completing sender says something, over all rounds and senders.
+fn completing_sayings(schedule: &Schedule, run: &Run) -> usize {
+    let of_sender = |i| match schedule.crash(i) {
+        0 => last_said(schedule, run, i),
+        crash => last_said(schedule, run, i).min(crash - 1),
+    };
+    (1..=schedule.n).map(of_sender).sum()
+}
+
 /// A process acts in its crash round: it shows the decision of another one that decides there. (The fifth wrong turn
 /// that document 01 names.)
 pub fn acts_in_crash_round(schedule: &Schedule, run: &mut Run) {
@@ -338,5 +400,43 @@ pub fn both_first(_: &mut State, row: &[u8], number: u8) -> u8 {
     match number {
         16 if row.contains(&DECIDED_0) && row.contains(&DECIDED_1) => 17,
         _ => number,
+    }
+}
+
+#[cfg(test)]
+mod tests {
+    use super::*;
+    use reference::Set;
+
+    /// A crash: the process, its crash round, and its reach.
+    type Crash = (usize, u8, Set);
+
+    /// The crashes of the marked schedules D, E and I, and those of H and J with reaches.
+    const D: &[Crash] = &[(1, 1, 0b0010)];
+    const E: &[Crash] = &[(1, 1, 0b0110), (4, 2, 0b0010), (2, 3, 0)];
+    const H: &[Crash] = &[(1, 3, 0b0110)];
+    const I: &[Crash] = &[(1, 2, 0b1110)];
+    const J: &[Crash] = &[(1, 4, 0b1110)];
+
+    /// The messages that each wrong turn of counting gives, in their order; n = 4, t = 3, all votes 1.
+    fn counted(crashes: &[Crash]) -> [usize; 4] {
+        let mut schedule = Schedule::quiet(4, 3);
+        for (i, round, reach) in crashes {
+            schedule.crashes[i - 1] = *round;
+            schedule.reaches[i - 1] = *reach;
+        }
+        let run = |change| changed_run(&schedule, Member::after, change);
+        COUNTS.map(|(_, change)| run(change).counts.messages)
+    }
+
+    /// The first of each is the count that document 01 gave, before K1; H there reaches nobody, and 44 + 2 is 46.
+    #[test]
+    fn wrong_turns_of_counting() {
+        assert_eq!(counted(&[]), [48, 24, 36, 36]);
+        assert_eq!(counted(D), [49, 25, 39, 37]);
+        assert_eq!(counted(E), [31, 17, 30, 24]);
+        assert_eq!(counted(H), [46, 24, 36, 35]);
+        assert_eq!(counted(I), [43, 23, 33, 33]);
+        assert_eq!(counted(J), [48, 24, 36, 39]);
     }
 }

@@ -111,7 +111,8 @@ impl Run {
     fn play(&mut self, s: &Schedule, r: usize, crashing: Set, rounds: &mut [u8]) {
         let speakers = self.speakers();
         let completing = self.alive & !crashing;
-        self.messages += s.n * (speakers & completing).count_ones() as usize;
+        // Document 02, K1: a completing sender adds n - 1, for its copy to itself is not on the wire.
+        self.messages += (s.n - 1) * (speakers & completing).count_ones() as usize;
         let mut senders = speakers & crashing;
         while let Some(place) = take_lowest(&mut senders) {
             self.messages += s.reaches[place].count_ones() as usize;
