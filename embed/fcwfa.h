@@ -142,7 +142,7 @@ uint8_t fcwfa_hear(uint8_t state[FCWFA_STATE_BYTES], const uint8_t *row,
 #define FCWFA_COUNT_FIRST 1
 /* The largest decided round. */
 #define FCWFA_COUNT_LAST 2
-/* How many messages were sent, copies to oneself included. */
+/* How many messages went out on the wire; copies to oneself do not count. */
 #define FCWFA_COUNT_MESSAGES 3
 
 /* The decision of a process that made none. Its round is 0. */

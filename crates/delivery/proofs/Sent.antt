@@ -1,10 +1,10 @@
--- The messages of a round: n for each process that completes it and says something, and besides what the crashing senders add; a sender adds as many
--- as a set has bits at most. Assumes nothing.
+-- The messages of a round: n - 1 for each process that completes it and says something, and besides what the crashing senders add; a sender adds as
+-- many as a set has bits at most. Assumes nothing.
 use mathlib.Core.Path.{_≡_, refl, sym, ap, ap₂, _∙_}
 use mathlib.Core.List.{List}
 use mathlib.Core.Logic.{_≢_, _⊎_, inl, inr}
 use mathlib.Core.Bool.{Bool, true, false, cond, not}
-use Prim.Native.Nat.{ℕ, _+_, _*_, _^_, _≤_, _<_, zero-le}
+use Prim.Native.Nat.{ℕ, _+_, _-_, _*_, _^_, _≤_, _<_, zero-le}
 use native.Mathlib.Nat.{le-trans, le-of-eq, mul-le-mul, mul-one, mul-zero}
 use native.Mathlib.Omega.{arith}
 use lib.Count.{ones, ones-le}
@@ -33,19 +33,20 @@ both-high b x y high p q =
 sent-few : (width n r c reach code : ℕ) → n ≤ width → reach < 2 ^ width → sentBy n r c reach code ≤ width
 unfolding sentBy
 sent-few width n r c reach code small low =
-    both-high (eqb code 0) 0 _ width zero-le (both-high (completesRound r c) n _ width small (both-high (eqb c r) (ones reach) 0 width (ones-le width reach low) zero-le))
+    both-high (eqb code 0) 0 _ width zero-le (both-high (completesRound r c) (n - 1) _ width (omega arith) (both-high (eqb c r) (ones reach) 0 width (ones-le width reach low) zero-le))
 
 -- whether a sender that completes the round says something
 abbrev speaks : ℕ → ℕ → ℕ → Bool
 speaks r c code = not (eqb (cond (completesRound r c) code nothing) nothing)
 
--- What a sender adds: n if it completes the round and says something, and besides what it adds where n is 0.
+-- What a sender adds: n - 1 if it completes the round and says something, and besides what it adds where n is 0.
 module _ (n r c reach code : ℕ) where
-  none-for-silence : cond (completesRound r c) code nothing ≡ nothing → n * bit (speaks r c code) ≡ 0
-  none-for-silence e = ap (λ (x : ℕ). n * bit (not (eqb x nothing))) e ∙ mul-zero n
+  none-for-silence : cond (completesRound r c) code nothing ≡ nothing → (n - 1) * bit (speaks r c code) ≡ 0
+  none-for-silence e = ap (λ (x : ℕ). (n - 1) * bit (not (eqb x nothing))) e ∙ mul-zero (n - 1)
 
-  n-for-speaking : cond (completesRound r c) code nothing ≡ code → code ≢ nothing → n * bit (speaks r c code) ≡ n
-  n-for-speaking e some = ap (λ (x : ℕ). n * bit (not (eqb x nothing))) e ∙ ap (λ (b : Bool). n * bit (not b)) (ne-eqb code nothing some) ∙ mul-one n
+  others-for-speaking : cond (completesRound r c) code nothing ≡ code → code ≢ nothing → (n - 1) * bit (speaks r c code) ≡ n - 1
+  others-for-speaking e some =
+      ap (λ (x : ℕ). (n - 1) * bit (not (eqb x nothing))) e ∙ ap (λ (b : Bool). (n - 1) * bit (not b)) (ne-eqb code nothing some) ∙ mul-one (n - 1)
 
   -- of a sender that does not complete the round nothing depends on n
   crashing-same : completesRound r c ≡ false → code ≢ nothing → sentBy n r c reach code ≡ sentBy 0 r c reach code
@@ -55,7 +56,7 @@ module _ (n r c reach code : ℕ) where
         | inr e ↦ sends-no-more n r c reach code some not-so (eqb-false c r e) ∙ sym (sends-no-more 0 r c reach code some not-so (eqb-false c r e))
       ]
 
-  pub sent-parts : sentBy n r c reach code ≡ n * bit (speaks r c code) + sentBy 0 r c reach code
+  pub sent-parts : sentBy n r c reach code ≡ (n - 1) * bit (speaks r c code) + sentBy 0 r c reach code
   sent-parts =
       elim (true-or-false (eqb code nothing)) [
         | inl z ↦
@@ -70,7 +71,7 @@ module _ (n r c reach code : ℕ) where
               | inl e ↦
                   let a = sends-to-all n r c reach code some e in
                   let b = sends-to-all 0 r c reach code some e in
-                  let d = n-for-speaking (cond-true (completesRound r c) code nothing e) some in
+                  let d = others-for-speaking (cond-true (completesRound r c) code nothing e) some in
                   omega arith
               | inr e ↦
                   let a = crashing-same e some in
@@ -122,24 +123,25 @@ speakers-are n f {row} small e =
     ∙ count-ends largest n (λ j. not (eqb (getD (padded n f) j 0) nothing)) small (λ j past. ap (λ (x : ℕ). not (eqb x nothing)) (facts .zeros j past))
     ∙ count-same n _ _ (λ j l. ap (λ (x : ℕ). not (eqb x nothing)) (facts .given j l))
 
-pub completing-few : (size : ℕ) {speaking : ℕ} (p : ℕ → Bool) → size ≤ largest → speaking ≡ count largest p → size * speaking ≤ largest * largest
-completing-few size p small e = mul-le-mul small (le-trans (le-of-eq e) (count-high largest p))
+pub completing-few : (copies : ℕ) {speaking : ℕ} (p : ℕ → Bool) → copies ≤ largest → speaking ≡ count largest p → copies * speaking ≤ largest * largest
+completing-few copies p small e = mul-le-mul small (le-trans (le-of-eq e) (count-high largest p))
 
 pub crashing-low : {n r j code c reach messages : ℕ} {before after : List (List ℕ)} → Entered n r j code c reach before messages after → reach < 2 ^ largest → messages ≤ largest
 crashing-low {r = r} {code = code} {c} {reach} e low = le-trans (le-of-eq (e .sent)) (sent-few largest 0 r c reach code zero-le low)
 
--- All of them: n for each that speaks, and what the crashing senders add.
+-- All of them: n - 1 for each that speaks, and what the crashing senders add.
 module _ (crashes reaches codes : List ℕ) (r : ℕ) where
   abbrev pub crashingAdds : ℕ → ℕ
   crashingAdds j = sentBy 0 r (getD crashes j 0) (getD reaches j 0) (getD codes j 0)
 
-  pub all-sent : (size n : ℕ) {speaking messages j : ℕ} {row : List ℕ} → n ≡ size → n ≤ largest → row ≡ padded n (fromCompleting crashes reaches codes r)
-      → speaking ≡ count largest (λ k. not (eqb (getD row k 0) nothing)) → messages ≡ n * speaking + sum j crashingAdds → j ≡ n
+  pub all-sent : (size n : ℕ) {copies speaking messages j : ℕ} {row : List ℕ} → n ≡ size → n ≤ largest → copies ≡ n - 1 → row ≡ padded n (fromCompleting crashes reaches codes r)
+      → speaking ≡ count largest (λ k. not (eqb (getD row k 0) nothing)) → messages ≡ copies * speaking + sum j crashingAdds → j ≡ n
       → messages ≡ messagesOf crashes reaches r (λ k. getD codes k 0) size
-  all-sent size n same small row speak so-far end =
+  all-sent size n {speaking = speaking} {j = j} same small wire row speak so-far end =
       so-far
-      ∙ ap₂ (λ (x k : ℕ). n * x + sum k crashingAdds) (speak ∙ speakers-are n (fromCompleting crashes reaches codes r) small row) end
-      ∙ sym (sum-parts n n (λ k. speaks r (getD crashes k 0) (getD codes k 0)) crashingAdds)
+      ∙ ap (λ (x : ℕ). x * speaking + sum j crashingAdds) wire
+      ∙ ap₂ (λ (x k : ℕ). (n - 1) * x + sum k crashingAdds) (speak ∙ speakers-are n (fromCompleting crashes reaches codes r) small row) end
+      ∙ sym (sum-parts (n - 1) n (λ k. speaks r (getD crashes k 0) (getD codes k 0)) crashingAdds)
       ∙ sym (sum-same n _ _ (λ k l. sent-parts n r (getD crashes k 0) (getD reaches k 0) (getD codes k 0)))
       ∙ ap (messagesOf crashes reaches r (λ k. getD codes k 0)) same
 

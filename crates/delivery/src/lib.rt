@@ -14,6 +14,7 @@ ghost use Rattle.run.specs.Run.{completesRound};
 ghost use Rattle.delivery.specs.Delivery.{Delivers};
 use crate::rows::completing_row;
 use crate::rows::enter_crashing;
+use crate::rows::others;
 use crate::rows::speakers;
 use crate::rows::store_row;
 use sets::Set;
@@ -31,8 +32,8 @@ pub fn completes(round: u8, crash: u8) -> bool
 
 // Stores the rows of the round, of the codes that are said in it, each at the place of its process and with
 // zeros after its codes, and answers the messages of the round. The rows of the grid from place n on stay as
-// they are. A sender that completes the round adds n, its own copy included, and one that crashes in it the
-// ones of its reach, each only if it says something.
+// they are. A sender that completes the round adds n - 1, a copy for each other process, and one that crashes in
+// it the ones of its reach, each only if it says something.
 pub fn deliver(
     n: usize,
     round: u8,
@@ -46,7 +47,7 @@ pub fn deliver(
     let size = fitting(n);
     let row = completing_row(size, round, codes, crashes);
     store_row(size, row, &mut grid[..]);
-    let mut messages = size * speakers(row);
+    let mut messages = others(size) * speakers(row);
     let mut j: usize = 0;
     while j < size {
         let crash = byte_at(crashes, j);

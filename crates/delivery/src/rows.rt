@@ -5,7 +5,7 @@
 ghost use mathlib.Core.Path.{_≡_};
 ghost use mathlib.Core.Bool.{cond, not};
 ghost use lib.Dec.{eqb};
-ghost use Prim.Native.Nat.{ℕ, _≤_, _<_};
+ghost use Prim.Native.Nat.{ℕ, _-_, _≤_, _<_};
 ghost use lib.ListN.{length, getD};
 ghost use Rattle.laws.specs.Below.{count};
 ghost use Rattle.laws.specs.Filled.{Overwritten};
@@ -54,6 +54,14 @@ pub fn store_row(n: usize, row: [u8; WIDTH], grid: &mut [[u8; WIDTH]])
         grid[i] = row;
         i += 1;
     }
+}
+
+// How many other processes a cluster of n has: so many copies go out on the wire for a sender that completes
+// the round. There is nobody where n is 0.
+pub fn others(n: usize) -> usize
+    ensures is { λ r. ⌜ r ≡ n - 1 ⌝ }
+{
+    if n == 0 { 0 } else { n - 1 }
 }
 
 // How many codes of a row say something.

@@ -26,7 +26,7 @@ pub record CountsNumbers : Type 0 where
   pub reads-back : (counts : Counts) → countsIn (countsNumbers counts) ≡ counts
   pub written : (numbers : List ℕ) → length numbers ≡ 4 → countsNumbers (countsIn numbers) ≡ numbers
   -- in the heading's order, "f first last messages": those of case D
-  pub in-order : countsNumbers (record { f = 1; first = 2; last = 3; messages = 49 }) ≡ 1 ∷ 2 ∷ 3 ∷ 49 ∷ []
+  pub in-order : countsNumbers (record { f = 1; first = 2; last = 3; messages = 37 }) ≡ 1 ∷ 2 ∷ 3 ∷ 37 ∷ []
 
 -- Demand 3 of the numbers as given: wherever the call answers 0, with the counts and the two tables after the call.
 pub record NumbersKeepDemand3 (s : Schedule) (number : ℕ) (counts decisions rounds : List ℕ) : Type 0 where

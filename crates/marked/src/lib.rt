@@ -37,7 +37,7 @@ const CASES: [Case; 11] = [
         f: 0,
         first: 1,
         last: 2,
-        messages: 48,
+        messages: 36,
     },
     // B: process 1 votes 0
     Case {
@@ -49,7 +49,7 @@ const CASES: [Case; 11] = [
         f: 0,
         first: 1,
         last: 2,
-        messages: 48,
+        messages: 36,
     },
     // C: 1: 1/0000
     Case {
@@ -61,7 +61,7 @@ const CASES: [Case; 11] = [
         f: 1,
         first: 2,
         last: 2,
-        messages: 36,
+        messages: 27,
     },
     // D: 1: 1/0100
     Case {
@@ -73,7 +73,7 @@ const CASES: [Case; 11] = [
         f: 1,
         first: 2,
         last: 3,
-        messages: 49,
+        messages: 37,
     },
     // E: 1: 1/0110; 4: 2/0100; 2: 3/0000
     Case {
@@ -85,7 +85,7 @@ const CASES: [Case; 11] = [
         f: 3,
         first: 3,
         last: 4,
-        messages: 31,
+        messages: 24,
     },
     // F: as E, but 2: 3/0010
     Case {
@@ -97,7 +97,7 @@ const CASES: [Case; 11] = [
         f: 3,
         first: 3,
         last: 3,
-        messages: 32,
+        messages: 25,
     },
     // G: as E, 2 not crashing
     Case {
@@ -109,7 +109,7 @@ const CASES: [Case; 11] = [
         f: 2,
         first: 2,
         last: 3,
-        messages: 39,
+        messages: 30,
     },
     // H: 1: 3/0000
     Case {
@@ -121,7 +121,7 @@ const CASES: [Case; 11] = [
         f: 1,
         first: 1,
         last: 2,
-        messages: 44,
+        messages: 33,
     },
     // I: 1: 2/0111
     Case {
@@ -133,7 +133,7 @@ const CASES: [Case; 11] = [
         f: 1,
         first: 2,
         last: 2,
-        messages: 43,
+        messages: 33,
     },
     // J: 1: 4/0000
     Case {
@@ -145,7 +145,7 @@ const CASES: [Case; 11] = [
         f: 1,
         first: 1,
         last: 2,
-        messages: 48,
+        messages: 36,
     },
     // K: 1, 2, 3: 1/0000
     Case {
@@ -157,7 +157,7 @@ const CASES: [Case; 11] = [
         f: 3,
         first: 4,
         last: 2,
-        messages: 12,
+        messages: 9,
     },
 ];
 

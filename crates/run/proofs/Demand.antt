@@ -3,7 +3,7 @@
 use mathlib.Core.Path.{_≡_, refl, ap, _∙_}
 use mathlib.Core.Logic.{inl, inr, _≢_}
 use Prim.Native.Nat.{ℕ, zero, suc, _+_, _-_, _*_, _≤_, _<_, min}
-use native.Mathlib.Nat.{le-trans, le-of-eq, mul-le-mul-left}
+use native.Mathlib.Nat.{le-trans, le-of-eq, mul-comm, mul-le-mul}
 use native.Mathlib.Numerals.{add-one}
 use native.Mathlib.Omega.{arith}
 use lib.Dec.{leb}
@@ -15,7 +15,7 @@ use Rattle.schedule.specs.Questions.{Rules}
 use Rattle.run.specs.Protocol.{fcwfa}
 use Rattle.run.specs.Run.{stateAt, after, final}
 use Rattle.run.specs.Report.{messages, report}
-use Rattle.run.specs.Demand.{Decides, CompletesUndecided, roundB, Demand3}
+use Rattle.run.specs.Demand.{Decides, CompletesUndecided, roundB, mostMessages, Demand3}
 use Rattle.run.specs.Facts.{CrashesSoFar}
 use Rattle.run.proofs.World.{Plays, crashes}
 use Rattle.run.proofs.States.{stays, undecided}
@@ -80,11 +80,15 @@ module _ (s : Schedule) (ok : Rules s) where
       sum-as : (k n : ℕ) → k ≡ n → sum k (λ r. sum (s .n) (sentOf fcwfa 1 Stands behaves s r)) ≡ sum n (λ r. sum (s .n) (sentOf fcwfa 1 Stands behaves s r))
       sum-as k n e = ap (λ j. sum j (λ r. sum (s .n) (sentOf fcwfa 1 Stands behaves s r))) e
 
-  messages-high : report fcwfa s .messages ≤ s .n * s .n * min (suc B) (suc (s .t))
+  messages-high : report fcwfa s .messages ≤ (s .n - 1) * s .n * min (suc B) (suc (s .t))
   messages-high =
       le-trans (le-of-eq messages-are)
-      (bounded (runWorld s) (laws s ok) (rules s ok) (s .n) (sentOf fcwfa 1 Stands behaves s)
+      (bounded (runWorld s) (laws s ok) (rules s ok) (s .n - 1) (sentOf fcwfa 1 Stands behaves s)
       (λ r j _. sent-high fcwfa 1 Stands behaves s ok r j) (sent-by fcwfa 1 Stands behaves s) B late-enough)
+
+  pub within-bound : report fcwfa s .messages ≤ mostMessages (s .n) (s .t) f
+  unfolding mostMessages
+  within-bound = le-trans messages-high (mul-le-mul (le-of-eq (mul-comm (s .n - 1) (s .n))) (omega arith))
 
   pub demand-3 : Demand3 s
   demand-3 = record {
@@ -105,7 +109,7 @@ module _ (s : Schedule) (ok : Rules s) where
         let u = h .undecided in
         let g = by-round-b (runWorld s) (laws s ok) (rules s ok) B i late-enough (c .process) (alive s B i (late-enough .high) (c .completed)) in
         omega arith;
-    message-bound = le-trans messages-high (mul-le-mul-left (s .n * s .n) (omega arith));
+    message-bound = within-bound;
     weak-fast-abort = λ z i h.
         let tl = ok .t-low in
         let vote = vote-is fcwfa 1 Stands behaves s (z .voter) (z .process) ∙ z .vote in

@@ -4,7 +4,7 @@ use mathlib.Core.Path.{_≡_, ap, _∙_}
 use mathlib.Core.Logic.{_⊎_, inl, inr, _≢_}
 use mathlib.Core.List.{List}
 use mathlib.Core.Bool.{true, false, not, _&&_}
-use Prim.Native.Nat.{ℕ, zero, suc, _+_, _≤_, _<_}
+use Prim.Native.Nat.{ℕ, zero, suc, _+_, _-_, _≤_, _<_}
 use native.Mathlib.Omega.{arith}
 use lib.Dec.{eqb, ltb}
 use lib.Count.{ones}
@@ -68,9 +68,9 @@ module _ (n r c reach code : ℕ) where
   unfolding sentBy
   sends-nothing h = cond-true _ _ _ (eq-eqb code nothing h)
 
-  pub sends-to-all : code ≢ nothing → completesRound r c ≡ true → sentBy n r c reach code ≡ n
+  pub sends-to-all : code ≢ nothing → completesRound r c ≡ true → sentBy n r c reach code ≡ n - 1
   unfolding sentBy
-  sends-to-all h e = cond-false _ 0 _ (ne-eqb code nothing h) ∙ cond-true (completesRound r c) n _ e
+  sends-to-all h e = cond-false _ 0 _ (ne-eqb code nothing h) ∙ cond-true (completesRound r c) (n - 1) _ e
 
   pub sends-to-reach : code ≢ nothing → completesRound r c ≡ false → c ≡ r → sentBy n r c reach code ≡ ones reach
   unfolding sentBy

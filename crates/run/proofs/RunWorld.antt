@@ -2,16 +2,16 @@
 use mathlib.Core.Path.{_≡_, refl, ap, _∙_}
 use mathlib.Core.Logic.{_⊎_, inl, inr, _≢_}
 use mathlib.Core.Bool.{true, false}
-use Prim.Native.Nat.{ℕ, zero, suc, _+_, _≤_, _<_}
+use Prim.Native.Nat.{ℕ, zero, suc, _+_, _-_, _≤_, _<_}
 use native.Mathlib.Omega.{arith}
 use lib.Dec.{eqb}
-use lib.Count.{ones-le}
 use borrow.Author.Tests.{eqb-true, eqb-false}
 use Rattle.laws.specs.Below.{tabulate}
 use Rattle.laws.proofs.Test.{true-or-false}
 use Rattle.laws.proofs.Counting.{split}
 use Rattle.member.specs.declared.Member.{Member}
 use Rattle.sets.specs.Sets.{names}
+use Rattle.sets.proofs.Theorem.{set-facts}
 use Rattle.schedule.specs.Schedule.{Schedule, voteOf, reachOf}
 use Rattle.schedule.specs.Questions.{Rules}
 use Rattle.run.specs.Protocol.{Protocol}
@@ -174,7 +174,7 @@ module _ (P : Protocol) (start : ℕ) (At : ℕ → ℕ → ℕ → Member → T
   pub vote-is : (i : ℕ) → i < s .n → after P s 0 i .estimate ≡ voteOf s i
   vote-is i l = ap (λ (m : Member). m .estimate) (opens-as P s i l) ∙ behaves .opens-with (s .n) (s .t) (i + 1) (voteOf s i)
 
-  -- What one sender adds in round r + 1: at most n; and only a process adds that has completed round r and is undecided or decided in it.
+  -- What one sender adds in round r + 1: at most n - 1, since no reach names its own process; and only a process adds that has completed round r and is undecided or decided in it.
   abbrev pub sentOf : ℕ → ℕ → ℕ
   sentOf r j = sent P s (suc r) (statesAfter P s r) j
 
@@ -193,15 +193,15 @@ module _ (P : Protocol) (start : ℕ) (At : ℕ → ℕ → ℕ → Member → T
         | inr z ↦ spoke (eqb-false (P .says (stateAt (statesAfter P s r) j)) 0 z)
       ]
 
-  pub sent-high : Rules s → (r j : ℕ) → j < s .n → sentOf r j ≤ s .n
+  pub sent-high : Rules s → (r j : ℕ) → j < s .n → sentOf r j ≤ s .n - 1
   sent-high ok r j jl = go (speaks r j) (part s (suc r) j)
     where
-      go : Speaks r j → Part s (suc r) j → sentOf r j ≤ s .n
+      go : Speaks r j → Part s (suc r) j → sentOf r j ≤ s .n - 1
       go (mute z) _ = omega arith
       go (spoke h) (completing c) = let e = sent-facts r j .completing h (record { process = jl; completed = c }) in omega arith
       go (spoke h) (crashing q) =
           let e = sent-facts r j .crashing h (λ z. omega arith) q in
-          let o = ones-le (s .n) (reachOf s j) (ok .process j jl .reach) in
+          let o = set-facts (s .n) .ones-of-others (reachOf s j) j (ok .process j jl .reach) jl (ok .process j jl .not-own) in
           omega arith
       go (spoke h) (gone lo hi) = let e = sent-facts r j .silent lo hi in omega arith
 

@@ -1,5 +1,6 @@
 -- Where nothing is sent in a round, nothing happens from there on: whoever completes the round has nothing to say, so it is stopped and keeps its
--- state, and everybody else keeps it anyway; and whoever speaks in a later round would have completed this one. Assumes nothing.
+-- state, and everybody else keeps it anyway; and whoever speaks in a later round would have completed this one. A completing sender that speaks adds
+-- n - 1, which is not 0 where there is another process: n is at least 4 in an accepted schedule, so it adds at least 3. Assumes nothing.
 use mathlib.Core.Path.{_≡_, refl, sym, ap, _∙_}
 use mathlib.Core.Logic.{inl, inr}
 use mathlib.Core.List.{List}
@@ -24,7 +25,7 @@ use Rattle.run.specs.Facts.{SilentFrom}
 use Rattle.run.proofs.Rounds.{completes-if, if-completes, completing, crashing, gone, part, what-is-sent, crashed-stays, stopped-stays, states-long, who-moves}
 use Rattle.run.proofs.RunWorld.{state-is}
 
-module _ (P : Protocol) (s : Schedule) (some : 0 < s .n) (mute : (m : Member) → P .says m ≡ nothing → P .stopped m ≡ true) where
+module _ (P : Protocol) (s : Schedule) (others : 1 < s .n) (mute : (m : Member) → P .says m ≡ nothing → P .stopped m ≡ true) where
   -- whoever completes a round in which nothing is sent has nothing to say
   nothing-to-say : (r : ℕ) (states : List Member) → sum (s .n) (sent P s r states) ≡ 0 → (i : ℕ) → i < s .n → completes s r i ≡ true
       → P .says (stateAt states i) ≡ nothing

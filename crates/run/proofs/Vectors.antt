@@ -1,24 +1,29 @@
 -- The values of specs/Vectors.antt are computed from the definitions, all at once. Assumes nothing.
 use mathlib.Core.Path.{refl}
+use lib.Count.{ones, onesIn}
 use Rattle.laws.specs.Test.{within}
-use Rattle.laws.specs.Below.{sum, count, fold}
+use Rattle.laws.specs.Below.{sum, count, tabulate, fold}
 use Rattle.laws.specs.Answer.{ask, placeAfter}
 use Rattle.member.specs.Opening.{openQuestion}
 use Rattle.member.specs.State.{inLimits, placed, inRange, stopped}
 use Rattle.member.specs.Saying.{says}
-use Rattle.member.specs.Hearing.{codes, told, toldEarly, toldBoth, firstEstimate, becomes}
+use Rattle.member.specs.Hearing.{codes, told, toldEarly, toldBoth, zerosOnly, quiet, enough, ruleMet, firstEstimate, lowered, toldValue, byRule, becomes}
 use Rattle.member.specs.Questions.{sayQuestion, rowQuestion, hearQuestion}
+use Rattle.sets.specs.Sets.{names}
 use Rattle.schedule.specs.Schedule.{crashedBy}
-use Rattle.run.specs.Report.{before, firstWith, firstOf, lastOf}
-use Rattle.run.specs.Demand.{roundB}
+use Rattle.run.specs.Run.{completesRound, isHeard, delivered, codeHeard, rowOf, stateAfter, nextState, played, opened, statesAfter, final}
+use Rattle.run.specs.Report.{sentBy, messages, before, firstWith, firstOf, lastOf}
+use Rattle.run.specs.Demand.{roundB, mostMessages}
 use Rattle.run.specs.Vectors.{RunVectors}
 
 pub run-vectors : RunVectors
-unfolding within sum count fold ask placeAfter openQuestion inLimits placed inRange stopped says codes told toldEarly toldBoth firstEstimate becomes sayQuestion rowQuestion hearQuestion crashedBy before firstWith firstOf lastOf roundB
+unfolding within sum count fold ask placeAfter openQuestion inLimits placed inRange stopped says codes told toldEarly toldBoth firstEstimate becomes sayQuestion rowQuestion hearQuestion crashedBy before firstWith firstOf lastOf roundB mostMessages ones onesIn tabulate zerosOnly quiet enough ruleMet lowered toldValue byRule names completesRound isHeard delivered codeHeard rowOf stateAfter nextState played opened statesAfter final sentBy messages
 run-vectors =
     record {
       round-b-of-3 = refl;
       round-b-of-5 = refl;
+      most-messages = refl;
+      bound-met = refl;
       crashed-by = refl;
       first = refl;
       last = refl;

@@ -32,6 +32,10 @@ module _ (P : Protocol) (s : Schedule) where
 unfoldable pub roundB : ℕ → ℕ → ℕ
 roundB f t = cond (leb f (t - 2)) (f + 2) (f + 1)
 
+-- the most messages of n processes with f crashes of t allowed: "n × (n − 1) × the smaller of B + 1 and t + 1"
+unfoldable pub mostMessages : ℕ → ℕ → ℕ → ℕ
+mostMessages n t f = n * (n - 1) * min (roundB f t + 1) (t + 1)
+
 -- some process voted 0, whether it crashes or not
 pub record SomeVotedZero (s : Schedule) : Type 0 where
   pub voter : ℕ
@@ -45,8 +49,8 @@ pub record Demand3 (s : Schedule) : Type 0 where
   pub abort-validity : SomeVotedZero s → (i v r : ℕ) → Decides fcwfa s i v r → v ≡ 0
   -- no process completes round B undecided
   pub round-b : (i : ℕ) → CompletesUndecided fcwfa s (roundB (report fcwfa s .f) (s .t)) i → ⊥
-  -- the reported messages are at most n × n × the smaller of B + 1 and t + 1
-  pub message-bound : report fcwfa s .messages ≤ s .n * s .n * min (roundB (report fcwfa s .f) (s .t) + 1) (s .t + 1)
+  -- the reported messages are within the bound
+  pub message-bound : report fcwfa s .messages ≤ mostMessages (s .n) (s .t) (report fcwfa s .f)
   -- if some process voted 0, every process that completes round 2 decides 0 in round 2
   pub weak-fast-abort : SomeVotedZero s → (i : ℕ) → Completes s 2 i → Decides fcwfa s i 0 2
   -- if all votes are 1 and f is 0, every process decides 1 in round 2

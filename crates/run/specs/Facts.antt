@@ -31,9 +31,9 @@ module _ (P : Protocol) (s : Schedule) where
 
   -- What sender j adds to the messages of round r, whatever the states at its start.
   pub record WhatIsSent (r : ℕ) (states : List Member) (j : ℕ) : Type 0 where
-    -- nothing, if it says nothing; n, if it completes the round; the ones of its reach, if it crashes in the round; nothing, if it crashed before
+    -- nothing, if it says nothing; n - 1, if it completes the round; the ones of its reach, if it crashes in the round; nothing, if it crashed before
     pub says-nothing : P .says (stateAt states j) ≡ nothing → sent P s r states j ≡ 0
-    pub completing : P .says (stateAt states j) ≢ nothing → Completes s r j → sent P s r states j ≡ s .n
+    pub completing : P .says (stateAt states j) ≢ nothing → Completes s r j → sent P s r states j ≡ s .n - 1
     pub crashing : P .says (stateAt states j) ≢ nothing → r ≢ 0 → crashOf s j ≡ r → sent P s r states j ≡ ones (reachOf s j)
     pub silent : 1 ≤ crashOf s j → crashOf s j < r → sent P s r states j ≡ 0
 

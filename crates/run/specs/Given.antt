@@ -1,12 +1,12 @@
 -- Demand 3 of what the bench gives for a schedule, on its counts and its two tables alone. Proved in proofs/Given.antt:
 -- `given-demand-3 : (s : Schedule) → Rules s → GivenDemand3 s (report fcwfa s)`. Assumes nothing.
-use Prim.Native.Nat.{ℕ, _+_, _*_, _≤_, _<_, min}
+use Prim.Native.Nat.{ℕ, _≤_, _<_}
 use mathlib.Core.Path.{_≡_}
 use mathlib.Core.Logic.{_≢_}
 use lib.ListN.{getD}
 use Rattle.schedule.specs.Schedule.{Schedule, voteOf}
 use Rattle.run.specs.Report.{Report}
-use Rattle.run.specs.Demand.{Completes, roundB, SomeVotedZero}
+use Rattle.run.specs.Demand.{Completes, roundB, mostMessages, SomeVotedZero}
 
 module _ (s : Schedule) (given : Report) where
   -- the tables give process i the decision v, in round r, not 0
@@ -34,8 +34,8 @@ module _ (s : Schedule) (given : Report) where
     pub abort-validity : SomeVotedZero s → (i v r : ℕ) → Gives i v r → v ≡ 0
     -- every process that completes round B is given a decision, in round B or before
     pub round-b : (i : ℕ) → Completes s givenB i → GivesBy givenB i
-    -- the messages that are given are at most n × n × the smaller of B + 1 and t + 1
-    pub message-bound : given .messages ≤ s .n * s .n * min (givenB + 1) (s .t + 1)
+    -- the messages that are given are within the bound of the f that is given
+    pub message-bound : given .messages ≤ mostMessages (s .n) (s .t) (given .f)
     -- if some process voted 0, every process that completes round 2 is given 0 in round 2
     pub weak-fast-abort : SomeVotedZero s → (i : ℕ) → Completes s 2 i → Gives i 0 2
     -- if all votes are 1 and the f that is given is 0, every process is given 1 in round 2

@@ -21,11 +21,12 @@ pub record Report : Type 0 where
   pub rounds : List ℕ
 
 -- What a sender adds to the messages of round r, of n processes, with its crash round, its reach and the code that it says: "A completing sender
--- that says something adds n, its own copy included; a crashing sender adds the ones of its reach if it says something; all others add 0."
+-- that says something now adds n − 1. A crash adds the ones of its reach as before", which is "if it says something; all others add 0". The copy to
+-- itself "never touches the wire".
 unfoldable pub sentBy : ℕ → ℕ → ℕ → ℕ → ℕ → ℕ
 sentBy n r c reach code =
     cond (eqb code nothing) 0
-    (cond (completesRound r c) n
+    (cond (completesRound r c) (n - 1)
     (cond (eqb c r) (ones reach)
     0))
 

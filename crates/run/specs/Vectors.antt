@@ -1,4 +1,4 @@
--- Values that document 01 gives, written by hand, and the statement that covers them. Proved in proofs/Vectors.antt: `run-vectors : RunVectors`, by computing
+-- Values that documents 01 and 02 give, written by hand, and the statement that covers them. Proved in proofs/Vectors.antt: `run-vectors : RunVectors`, by computing
 -- what the definitions give.
 use Prim.Native.Nat.{ℕ}
 use mathlib.Core.Path.{_≡_}
@@ -10,8 +10,8 @@ use Rattle.member.specs.Opening.{opening}
 use Rattle.schedule.specs.Four.{four, allOne, allZero}
 use Rattle.schedule.specs.Schedule.{scheduleOf, crashedBy}
 use Rattle.run.specs.Protocol.{fcwfa, nobody, byCalls}
-use Rattle.run.specs.Report.{firstOf, lastOf}
-use Rattle.run.specs.Demand.{roundB}
+use Rattle.run.specs.Report.{firstOf, lastOf, report}
+use Rattle.run.specs.Demand.{roundB, mostMessages}
 
 -- the decided rounds of four processes, 0 for none
 abbrev pub decidedIn : List ℕ → ℕ → ℕ
@@ -25,6 +25,9 @@ pub record RunVectors : Type 0 where
   -- B = f + 2 if f ≤ t − 2 and f + 1 otherwise: t = 3 with no crash to three, and t = 5 with no crash to five
   pub round-b-of-3 : map (λ f. roundB f 3) (four 0 1 2 3) ≡ four 2 3 3 4
   pub round-b-of-5 : map (λ f. roundB f 5) (0 ∷ 1 ∷ 2 ∷ 3 ∷ 4 ∷ 5 ∷ []) ≡ 2 ∷ 3 ∷ 4 ∷ 5 ∷ 5 ∷ 6 ∷ []
+  -- "n × (n − 1) × the smaller of B + 1 and t + 1", of four processes with t = 3 and no crash to three; and case A, "36", meets it
+  pub most-messages : map (mostMessages 4 3) (four 0 1 2 3) ≡ four 36 48 48 48
+  pub bound-met : report fcwfa (scheduleOf 4 3 allOne allZero allZero) .messages ≡ mostMessages 4 3 0
   -- crash rounds from 1 to r, of those of case E: none to round 0, one to round 1, two to round 2, three to round 3
   pub crashed-by : map (crashedBy (scheduleOf 4 3 allOne (four 1 3 0 2) allZero)) (four 0 1 2 3) ≡ four 0 1 2 3
   -- "the one with the smallest decided round, the lowest number among equals"; 0 for none

@@ -2,7 +2,7 @@
 -- bit below stands for one process, so the ones are those that are named; and bits add up to a number that has them for its bits. Assumes nothing.
 use mathlib.Core.Path.{_≡_, refl, sym, ap, ap₂, _∙_}
 use mathlib.Core.Logic.{inl, inr}
-use mathlib.Core.Bool.{true, false}
+use mathlib.Core.Bool.{true, false, true≢false}
 use Prim.Native.Nat.{ℕ, zero, suc, _+_, _-_, _*_, _/_, _%_, _^_, _≤_, _<_}
 use native.Mathlib.Nat.{add-comm, div-one, div-eq-of-lt, div-lt-iff-lt-mul, le-div-iff-mul-le, lt-of-lt-of-le, mod-eq-of-lt, mod-lt, mod-one, mul-le-mul-right, pow-suc}
 use native.Mathlib.Numerals.{add-one}
@@ -15,7 +15,7 @@ use borrow.Author.Count.{below-none}
 use borrow.Author.Tests.{eqb-true, eqb-false, lt-ltb, le-ltb}
 use Rattle.laws.specs.Below.{bit, count, sum}
 use Rattle.laws.proofs.Test.{true-or-false}
-use Rattle.laws.proofs.Counting.{below-or-top, count-first, count-same}
+use Rattle.laws.proofs.Counting.{split, below-or-top, count-first, count-same, count-full}
 use Rattle.sets.specs.Sets.{names, upTo, setOf}
 
 -- Below 2 ^ n, and past it.
@@ -71,6 +71,14 @@ ones-named (suc n) set h =
     let first = count-first n (names set) in
     let digit = ones-step set in
     omega arith
+
+pub ones-of-others : (n set i : ℕ) → set < 2 ^ n → i < n → names set i ≡ false → ones set ≤ n - 1
+ones-of-others n set i h l missed =
+    let named = ones-named n set h in
+    elim (split n (count n (names set))) [
+      | inl all ↦ absurd (true≢false (sym (count-full n (names set) all i l) ∙ missed))
+      | inr fewer ↦ omega arith
+    ]
 
 -- A set and the row of its bits.
 

@@ -10,11 +10,12 @@ use Rattle.laws.proofs.Overwritten.{over-at, over-past, over-long}
 use Rattle.sets.specs.Largest.{largest}
 use Rattle.sets.specs.Tables.{padded}
 use Rattle.sets.specs.Facts.{SetFacts, TableFacts}
-use Rattle.sets.proofs.Bits.{ones-named, names-nobody, set-bits, set-below, of-its-bits}
+use Rattle.sets.proofs.Bits.{ones-named, ones-of-others, names-nobody, set-bits, set-below, of-its-bits}
 
 pub set-facts : (n : ℕ) → SetFacts n
 set-facts n = record {
   ones-named = ones-named n;
+  ones-of-others = ones-of-others n;
   nobody-past = names-nobody n;
   bits = λ digit. set-bits digit n;
   below = λ digit. set-below digit n;

@@ -45,12 +45,12 @@ eights = four 8 8 8 8
 
 abbrev pub calls : List SimulateCall
 calls =
-    -- case D: f is 1, first 2, last 3, and 49 messages; "decision 0, 1 or 2 (none), and its round, 0 for none"
+    -- case D: f is 1, first 2, last 3, and "case D 37" messages; "decision 0, 1 or 2 (none), and its round, 0 for none"
     record {
       schedule = marked (four 1 0 0 0) (four 2 0 0 0);
       decisions = sevens;
       rounds = eights;
-      answer = accepted (record { f = 1; first = 2; last = 3; messages = 49 });
+      answer = accepted (record { f = 1; first = 2; last = 3; messages = 37 });
       decisionsNow = four 2 0 0 0;
       roundsNow = four 0 3 3 3;
     } ∷

@@ -22,18 +22,18 @@ prints text output = record { text = text; output = output }
 
 abbrev pub vectors : List Printed
 vectors =
-    -- "Case D, text and whole report"
+    -- "Case D, text and whole report", with the messages of document 02: "case D 37"
     prints "n t\n4 3\nid vote crash reach\n1 1 1 0100\n2 1 0 0000\n3 1 0 0000\n4 1 0 0000\n"
-    "n t f first last messages\n4 3 1 2 3 49\nid decision round\n1 - 0\n2 0 3\n3 0 3\n4 0 3\n" ∷
-    -- case E, "-, -, 1@4, -, 31": "1: 1/0110; 4: 2/0100; 2: 3/0000"
+    "n t f first last messages\n4 3 1 2 3 37\nid decision round\n1 - 0\n2 0 3\n3 0 3\n4 0 3\n" ∷
+    -- case E, "-, -, 1@4, -": "1: 1/0110; 4: 2/0100; 2: 3/0000"; messages 9 + 2, then 6 + 1, then 3 + 0, then 3
     prints "n t\n4 3\nid vote crash reach\n1 1 1 0110\n2 1 3 0000\n3 1 0 0000\n4 1 2 0100\n"
-    "n t f first last messages\n4 3 3 3 4 31\nid decision round\n1 - 0\n2 - 0\n3 1 4\n4 - 0\n" ∷
+    "n t f first last messages\n4 3 3 3 4 24\nid decision round\n1 - 0\n2 - 0\n3 1 4\n4 - 0\n" ∷
     -- process 3 alone hears the message of process 1 in round 2, and so is the first to decide, before processes with lower numbers
     prints "n t\n4 3\nid vote crash reach\n1 1 2 0010\n2 1 0 0000\n3 1 0 0000\n4 1 0 0000\n"
-    "n t f first last messages\n4 3 1 3 3 49\nid decision round\n1 - 0\n2 1 3\n3 1 2\n4 1 3\n" ∷
-    -- numbers of two and three digits: the last of ten processes votes 0, and each sends ten messages in three rounds
+    "n t f first last messages\n4 3 1 3 3 37\nid decision round\n1 - 0\n2 1 3\n3 1 2\n4 1 3\n" ∷
+    -- numbers of two and three digits: the last of ten processes votes 0, and each sends nine messages in each of three rounds
     prints "n t\n10 3\nid vote crash reach\n1 1 0 0000000000\n2 1 0 0000000000\n3 1 0 0000000000\n4 1 0 0000000000\n5 1 0 0000000000\n6 1 0 0000000000\n7 1 0 0000000000\n8 1 0 0000000000\n9 1 0 0000000000\n10 0 0 0000000000\n"
-    "n t f first last messages\n10 3 0 1 2 300\nid decision round\n1 0 2\n2 0 2\n3 0 2\n4 0 2\n5 0 2\n6 0 2\n7 0 2\n8 0 2\n9 0 2\n10 0 2\n" ∷
+    "n t f first last messages\n10 3 0 1 2 270\nid decision round\n1 0 2\n2 0 2\n3 0 2\n4 0 2\n5 0 2\n6 0 2\n7 0 2\n8 0 2\n9 0 2\n10 0 2\n" ∷
     -- "An empty text prints `9 1` in the second."
     prints "" "refused line\n9 1\n\n" ∷
     -- line 1 "compared letter for letter"; line 2 would get 1

@@ -12,7 +12,7 @@ pub struct Counts {
     pub first: usize,
     /// The largest decided round.
     pub last: usize,
-    /// How many messages were sent, copies to oneself included.
+    /// How many messages went out on the wire; copies to oneself do not count.
     pub messages: usize,
 }
 

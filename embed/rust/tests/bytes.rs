@@ -57,7 +57,7 @@ fn a_schedule_is_run_to_its_end() {
             f: 1,
             first: 2,
             last: 3,
-            messages: 49
+            messages: 37
         })
     );
     assert_eq!(decisions, [NO_DECISION, 0, 0, 0]);

@@ -79,7 +79,7 @@ fn a_schedule_is_run_to_its_end() {
             f: 1,
             first: 2,
             last: 3,
-            messages: 49,
+            messages: 37,
         },
         decisions: vec![None, abort, abort, abort],
     };
@@ -125,7 +125,7 @@ fn the_largest_cluster_runs_and_a_larger_one_is_refused() {
             f: 1,
             first: 1,
             last: 3,
-            messages: 4 * n * (n - 1) + 1
+            messages: 4 * (n - 1) * (n - 1) + 1
         })
     );
     assert_eq!(one_crash(larger), Err(Refusal::N));

@@ -33,18 +33,21 @@ completing-row-requires c κs = omega arith
 store-row-requires : tie.Need-store-row-requires Inv-loop μ-loop
 store-row-requires c κs = (omega arith, c .store-row-arg .given .0 .1)
 
+others-requires : tie.Need-others-requires Inv-loop μ-loop
+others-requires c κs = search needs
+
 speakers-requires : tie.Need-speakers-requires Inv-loop μ-loop
 speakers-requires c κs = search needs
 
 mul-messages : tie.Need-mul-messages Inv-loop μ-loop
-mul-messages c = let first = completing-few (c .before .before .before .before .fitting .result) _ (omega arith) (c .speakers .ensures) in omega arith
+mul-messages c = let first = completing-few (c .before .others .result) _ (omega arith) (c .speakers .ensures) in omega arith
 
 loop-holds : tie.Need-loop-holds Inv-loop μ-loop
 loop-holds c =
-    let a = c .before .before .before .before .before .before .before .args in (
-      c .before .before .before .before .fitting .ensures,
+    let a = c .before .before .before .before .before .before .before .before .args in (
+      c .before .before .before .before .before .fitting .ensures,
       omega arith,
-      rows-start (now (a .crashes)) (now (a .reaches)) (now (a .codes)) (a .round) (c .before .before .before .completing-row .ensures) (c .before .store-row .ensures),
+      rows-start (now (a .crashes)) (now (a .reaches)) (now (a .codes)) (a .round) (c .before .before .before .before .completing-row .ensures) (c .before .before .store-row .ensures),
       so-far-start (now (a .crashes)) (now (a .reaches)) (now (a .codes)) (a .round) _,
       omega arith,
     )
@@ -63,7 +66,7 @@ enter-crashing-requires c κs = (omega arith, omega arith, c .enter-crashing-arg
 
 add-messages : tie.Need-add-messages Inv-loop μ-loop
 add-messages c =
-    let first = completing-few (c .before .before .before .before .before .before .before .before .before .before .before .fitting .result) _ (omega arith) (c .before .before .before .before .before .before .before .speakers .ensures) in
+    let first = completing-few (c .before .before .before .before .before .before .before .before .others .result) _ (omega arith) (c .before .before .before .before .before .before .before .speakers .ensures) in
     let few = crashing-low (c .enter-crashing .ensures) (c .before .before .before .set-at .ok) in
     let so-far = c .before .before .before .before .before .before .loop .inv .4 in
     omega arith
@@ -76,7 +79,7 @@ loop-less c = omega arith
 
 loop-again : tie.Need-loop-again Inv-loop μ-loop
 loop-again c =
-    let a = c .before .before .before .before .before .before .before .before .before .before .before .before .before .before .args in
+    let a = c .before .before .before .before .before .before .before .before .before .before .before .before .before .before .before .args in
     let at = c .before .before .before .before .before .before .loop in
     let inv = at .inv in
     let entered = entered-at (c .enter-crashing .ensures) (c .before .before .before .before .byte-at .ensures) (c .before .before .before .set-at .ensures) in
@@ -90,19 +93,20 @@ loop-again c =
 
 returns : tie.Need-returns Inv-loop μ-loop
 returns c =
-    let a = c .before .before .before .before .before .before .before .before .before .args in
+    let a = c .before .before .before .before .before .before .before .before .before .before .args in
     let inv = c .before .loop .inv in
     let small : fitting (a .n) ≤ largest = omega arith in
     let sent =
-    all-sent (now (a .crashes)) (now (a .reaches)) (now (a .codes)) (a .round) (fitting (a .n)) _ (inv .0) (omega arith) (c .before .before .before .before .before .completing-row .ensures)
+    all-sent (now (a .crashes)) (now (a .reaches)) (now (a .codes)) (a .round) (fitting (a .n)) _ (inv .0) (omega arith) (c .before .before .before .others .ensures)
+    (c .before .before .before .before .before .before .completing-row .ensures)
     (c .before .before .speakers .ensures) (inv .3) (omega arith)
     in
     record {
       rows =
-          rows-end (now (a .crashes)) (now (a .reaches)) (now (a .codes)) (a .round) (fitting (a .n)) (inv .0) (c .loop-test .left) (c .before .before .before .store-row .ensures)
+          rows-end (now (a .crashes)) (now (a .reaches)) (now (a .codes)) (a .round) (fitting (a .n)) (inv .0) (c .loop-test .left) (c .before .before .before .before .store-row .ensures)
           (inv .2);
       counted = sent;
-      few = le-trans (le-of-eq sent) (sent-low (now (a .crashes)) (now (a .reaches)) (now (a .codes)) (a .round) (fitting (a .n)) small (λ k. c .before .before .before .before .before .before .before .shared-slice-known2 .given k .fits));
+      few = le-trans (le-of-eq sent) (sent-low (now (a .crashes)) (now (a .reaches)) (now (a .codes)) (a .round) (fitting (a .n)) small (λ k. c .before .before .before .before .before .before .before .before .shared-slice-known2 .given k .fits));
     }
 
 pub deliver-spec : {M : Type 1} → statement M
@@ -114,6 +118,7 @@ deliver-spec =
     fitting-requires
     completing-row-requires
     store-row-requires
+    others-requires
     speakers-requires
     mul-messages
     loop-holds
