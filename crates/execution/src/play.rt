@@ -22,7 +22,9 @@ fn empty_grid() -> [[u8; WIDTH]; WIDTH] {
     [row; WIDTH]
 }
 
-// Rounds 1 to `last`, up to the first in which nothing is sent: after it nothing happens any more.
+// Rounds 1 to `last`, up to the first in which nothing is sent: after it nothing happens any more. A sender that
+// completes a round and says something adds n - 1 to it, at least 3 in an accepted schedule; so in such a round all
+// that complete it have stopped.
 pub fn play(
     n: usize,
     t: usize,

@@ -86,7 +86,7 @@ module _ (s : Schedule) (ok : Rules s) where
       (bounded (runWorld s) (laws s ok) (rules s ok) (s .n - 1) (sentOf fcwfa 1 Stands behaves s)
       (λ r j _. sent-high fcwfa 1 Stands behaves s ok r j) (sent-by fcwfa 1 Stands behaves s) B late-enough)
 
-  pub within-bound : report fcwfa s .messages ≤ mostMessages (s .n) (s .t) f
+  within-bound : report fcwfa s .messages ≤ mostMessages (s .n) (s .t) f
   unfolding mostMessages
   within-bound = le-trans messages-high (mul-le-mul (le-of-eq (mul-comm (s .n - 1) (s .n))) (omega arith))
 

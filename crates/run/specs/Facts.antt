@@ -117,7 +117,8 @@ pub record RunPromises (limit : ℕ) (s : Schedule) : Type 0 where
   pub deciders : Deciders s
   pub none-refused : NoneRefused fcwfa limit s
   pub own-answers : OwnAnswers fcwfa limit s
-  -- a round in which nothing is sent is followed by nothing else, so a run may end there
+  -- A round in which nothing is sent is followed by nothing else, so a run may end there: n is at least 4, so a completing sender that says something
+  -- adds at least 3.
   pub silence : (r : ℕ) → sentAfter fcwfa s r ≡ 0 → SilentFrom fcwfa s r
   -- demand 3 of the report itself, on its counts and its tables
   pub given-demand-3 : GivenDemand3 s (report fcwfa s)
