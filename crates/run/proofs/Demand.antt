@@ -80,15 +80,16 @@ module _ (s : Schedule) (ok : Rules s) where
       sum-as : (k n : ℕ) → k ≡ n → sum k (λ r. sum (s .n) (sentOf fcwfa 1 Stands behaves s r)) ≡ sum n (λ r. sum (s .n) (sentOf fcwfa 1 Stands behaves s r))
       sum-as k n e = ap (λ j. sum j (λ r. sum (s .n) (sentOf fcwfa 1 Stands behaves s r))) e
 
-  messages-high : report fcwfa s .messages ≤ (s .n - 1) * s .n * min (suc B) (suc (s .t))
+  messages-high : report fcwfa s .messages ≤ s .n * (s .n - 1) * min (suc B) (suc (s .t))
   messages-high =
-      le-trans (le-of-eq messages-are)
+      rw (mul-comm (s .n) (s .n - 1))
+      (le-trans (le-of-eq messages-are)
       (bounded (runWorld s) (laws s ok) (rules s ok) (s .n - 1) (sentOf fcwfa 1 Stands behaves s)
-      (λ r j _. sent-high fcwfa 1 Stands behaves s ok r j) (sent-by fcwfa 1 Stands behaves s) B late-enough)
+      (λ r j _. sent-high fcwfa 1 Stands behaves s ok r j) (sent-by fcwfa 1 Stands behaves s) B late-enough))
 
   within-bound : report fcwfa s .messages ≤ mostMessages (s .n) (s .t) f
   unfolding mostMessages
-  within-bound = le-trans messages-high (mul-le-mul (le-of-eq (mul-comm (s .n - 1) (s .n))) (omega arith))
+  within-bound = le-trans messages-high (mul-le-mul (mul-le-mul (omega arith) (omega arith)) (omega arith))
 
   pub demand-3 : Demand3 s
   demand-3 = record {
