@@ -1,4 +1,5 @@
-//! The run of a schedule (document 01, "Who hears whom"; what a sender adds to the messages, document 02, K1).
+//! The run of a schedule (document 01, "Who hears whom"; document 02, K1: what a sender adds to the messages; K3: the
+//! first decider).
 
 use crate::member::{Member, NOTHING};
 use crate::questions::Refusal;
@@ -16,7 +17,8 @@ type Grid = [[u8; LARGEST]; LARGEST];
 pub struct Counts {
     /// The number of processes that crash.
     pub f: usize,
-    /// Among the processes that decided, the one with the smallest decided round, the lowest number among equals.
+    /// The first decider: among the processes that decided, the one with the smallest decided round; among equals one
+    /// that survives before one that crashes, and only then the lower number.
     pub first: usize,
     /// The largest decided round.
     pub last: usize,
@@ -146,10 +148,15 @@ fn decision(member: &Member) -> u8 {
 /// at the latest: so there is a first. (0 stands for none, which only a wrong way of hearing can bring about.)
 fn counts(schedule: &Schedule, members: &[Member], messages: usize) -> Counts {
     let decided = || members.iter().filter(|member| member.decided != 0);
-    let first = decided().min_by_key(|member| (member.decided, member.own));
+    // Document 02, K3: "Among equal smallest rounds a process whose crash round is 0 now goes before one that crashes,
+    // and only then the lower number." Whether it crashes counts, not when; false is less than true.
+    let order = |member: &&Member| {
+        let crashes = !schedule.survives(member.own);
+        (member.decided, crashes, member.own)
+    };
     Counts {
         f: schedule.f(),
-        first: first.map_or(0, |member| member.own),
+        first: decided().min_by_key(order).map_or(0, |member| member.own),
         last: decided().map(|member| member.decided).max().unwrap_or(0),
         messages,
     }

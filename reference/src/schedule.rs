@@ -46,6 +46,11 @@ impl Schedule {
         usize::from(self.crashes[i - 1])
     }
 
+    /// Whether process i survives: its crash round is 0.
+    pub fn survives(&self, i: usize) -> bool {
+        self.crash(i) == 0
+    }
+
     /// Whether the reach of process i names process j.
     pub fn names(&self, i: usize, j: usize) -> bool {
         self.reaches[i - 1] & bit(j) != 0

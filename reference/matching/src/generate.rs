@@ -12,7 +12,7 @@ use crate::random::Random;
 type Make = fn(&mut Random, usize, usize) -> Schedule;
 
 /// The families and their names.
-pub const FAMILIES: [(&str, Make); 16] = [
+pub const FAMILIES: [(&str, Make); 17] = [
     ("no crash", no_crash),
     ("crashes early", crashes_early),
     ("crashes late", crashes_late),
@@ -29,6 +29,7 @@ pub const FAMILIES: [(&str, Make); 16] = [
     ("reaches single", reaches_single),
     ("reaches all but one", reaches_all_but_one),
     ("reaches full", reaches_full),
+    ("earliest deciders crash", earliest_deciders_crash),
 ];
 
 /// A way to choose the reach of process i among n processes.
@@ -275,6 +276,20 @@ fn reaches_full(random: &mut Random, n: usize, t: usize) -> Schedule {
     reaches(random, (n, t), full_reach)
 }
 
+/// The first process of an order crashes in round 2 and reaches two or more, which so hear everybody there and decide
+/// before the rest. All of these crash later.
+fn earliest_deciders_crash(random: &mut Random, n: usize, t: usize) -> Schedule {
+    let order = random.order(n);
+    let mut schedule = Schedule::quiet(n, t);
+    schedule.crashes[order[0] - 1] = 2;
+    for i in &order[1..=random.within(2..=t - 1)] {
+        schedule.reaches[order[0] - 1] |= bit(*i);
+        schedule.crashes[i - 1] = random.within(3..=t + 1) as u8;
+        schedule.reaches[i - 1] = any_reach(random, n, *i);
+    }
+    schedule
+}
+
 #[cfg(test)]
 mod tests {
     use super::*;
@@ -307,6 +322,9 @@ mod tests {
         assert!(of_family(9).iter().all(|s| !s.has_vote_0()));
         let zeros = |s: &Schedule| s.votes.iter().filter(|vote| **vote == 0).count();
         assert!(of_family(10).iter().all(|s| zeros(s) == 1));
+        // The first decider survives if any of the earliest ones does.
+        let first = |s: &Schedule| run(s).expect("it is accepted").counts.first;
+        assert!(of_family(16).iter().all(|s| !s.survives(first(s))));
     }
 
     #[test]

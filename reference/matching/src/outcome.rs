@@ -26,9 +26,9 @@ pub struct Outcome {
     pub compared: u64,
     /// How many of them differ.
     pub differ: u64,
-    /// How many finished runs were held against demand 3.
+    /// How many finished runs were held against demand 3 and the rule of the first decider.
     pub demands: u64,
-    /// How many of them break it.
+    /// How many of them break one of these.
     pub broken: u64,
     /// The first differences in full, each with the number of its case.
     pub differences: Vec<(u64, String)>,
@@ -69,7 +69,7 @@ impl Outcome {
         }
     }
 
-    /// Counts one run held against demand 3, and keeps its words if it breaks a promise.
+    /// Counts one run held against demand 3 and the rule of the first decider, and keeps its words if it breaks one.
     pub fn demand(&mut self, case: u64, holds: bool, words: impl FnOnce() -> String) {
         self.demands += 1;
         if !holds {

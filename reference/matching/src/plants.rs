@@ -13,7 +13,7 @@ use crate::summary::{spelled, Summary};
 use crate::tables::{self, by_reference, Simulate};
 use crate::texts::{self, Program};
 use crate::whole::check_small_count;
-use crate::wrong::{self, Change, Hear, Wrong, COUNTS, RIGHT, TURNS};
+use crate::wrong::{self, Change, Hear, Wrong, COUNTS, FIRSTS, RIGHT, TURNS};
 use crate::{demands, generate, small};
 
 /// The seed and the counts of the self-test. Every size comes up twice among the valid texts.
@@ -138,7 +138,7 @@ fn turns() -> Vec<Plant> {
     TURNS.into_iter().flat_map(of_turn).collect()
 }
 
-/// The wrong turns of counting messages, in every part where they are counted.
+/// The wrong turns of counting messages and the wrong orders of the first decider, in every part that gives counts.
 fn counts() -> Vec<Plant> {
     let of_turn = |(name, change): (&'static str, Change)| {
         let simulate = wrong::simulate_by(Member::after, change);
@@ -148,7 +148,7 @@ fn counts() -> Vec<Plant> {
             called(name, &simulate),
         ]
     };
-    COUNTS.into_iter().flat_map(of_turn).collect()
+    COUNTS.into_iter().chain(FIRSTS).flat_map(of_turn).collect()
 }
 
 fn in_texts() -> Vec<Plant> {
@@ -184,14 +184,11 @@ fn in_texts() -> Vec<Plant> {
 fn in_calls() -> Vec<Plant> {
     let changed = |change| wrong::simulate_by(Member::after, change);
     let more = changed(wrong::one_message_more);
-    let highest = changed(wrong::highest_first);
     let acts = changed(wrong::acts_in_crash_round);
     vec![
         every_nth("a decision in the crash round", &acts),
         every_nth("messages off by one at f = t", &more),
-        every_nth("first is the highest among equals", &highest),
         called("messages off by one at f = t", &more),
-        called("first is the highest among equals", &highest),
         called("a table changed on refusal 7", &wrong::table_on_refusal),
         called("a rounds table that is too long", &wrong::long_table),
         called("reaches above n let pass", &wrong::reach_above_n),
@@ -211,6 +208,8 @@ fn in_promises() -> Vec<Plant> {
         promised("the own copy counted", right, COUNTS[0].1),
         promised("decided in round 3 after a vote 0", right, slow_abort),
         promised("decided in round 3 without a crash", right, slow_commit),
+        promised("the lower number first, crash or not", right, FIRSTS[0].1),
+        promised("a survivor first, whatever its round", right, FIRSTS[5].1),
     ]
 }
 
@@ -258,7 +257,7 @@ fn machine(name: &'static str, machine: &dyn Machine) -> Plant {
     Plant::new("calls to a member", name, outcome, &members::NUMBERS)
 }
 
-/// Demand 3 on runs that hear by a way and are changed at their end.
+/// Demand 3 and the rule of the first decider on runs that hear by a way and are changed at their end.
 fn promised(name: &'static str, hear: Hear, change: Change) -> Plant {
     let outcome = share(VALID, 0, |outcome, case| {
         let mut random = Random::of_case(SEED, 0, case);
@@ -266,7 +265,7 @@ fn promised(name: &'static str, hear: Hear, change: Change) -> Plant {
         let run = wrong::changed_run(&schedule, hear, change);
         demands::check(outcome, case, &schedule, &run);
     });
-    Plant::new("demand 3", name, outcome, &[])
+    Plant::new("finished runs", name, outcome, &[])
 }
 
 fn unchanged(_: &Schedule, _: &mut Run) {}
@@ -317,9 +316,14 @@ fn slow_commit(schedule: &Schedule, run: &mut Run) {
     }
 }
 
-/// The process that decided first decides in round 3.
+/// The last process that decided decides in round 3, unless it is the first decider: that one stays right, so that
+/// demand 3 alone is broken.
 fn slow(run: &mut Run) {
-    run.rounds[run.counts.first - 1] = 3;
+    let last = run.rounds.iter().rposition(|round| *round != 0);
+    match last {
+        Some(place) if place + 1 != run.counts.first => run.rounds[place] = 3,
+        _ => {}
+    }
 }
 
 #[cfg(test)]

@@ -38,8 +38,8 @@ impl Summary {
         u8::from(!(done && right))
     }
 
-    /// The last lines: the faults, demand 3, and one line over everything. A run that breaks demand 3 counts as a
-    /// difference there.
+    /// The last lines: the faults, demand 3 with the first decider, and one line over everything. A run that breaks one
+    /// of the two counts as a difference there.
     pub fn print(&self) {
         for fault in &self.faults {
             println!("FAULT {fault}");
@@ -95,9 +95,9 @@ fn with_commas(number: usize) -> String {
     }
 }
 
-/// How many runs were held against demand 3, and how many break it.
+/// How many runs were held against demand 3 and the rule of the first decider, and how many break one of these.
 fn demand_words(demands: u64, broken: u64) -> String {
-    format!("demand 3: held against {demands} runs, broken by {broken}")
+    format!("demand 3 and the first decider: held against {demands} runs, broken by {broken}")
 }
 
 /// The counts of a kind in words.

@@ -1,5 +1,7 @@
 //! Wrong implementations, each with one planted difference, to show that the matching finds it.
 
+use std::cmp::Reverse;
+
 use reference::member::{Member, DECIDED_0, DECIDED_1, ESTIMATE_0, ESTIMATE_1, NOTHING};
 use reference::questions::Refusal;
 use reference::report::{answer, refusal, report};
@@ -191,6 +193,39 @@ fn completing_sayings(schedule: &Schedule, run: &Run) -> usize {
     (1..=schedule.n).map(of_sender).sum()
 }
 
+/// Wrong orders of the first decider that document 02's K3 invites: each takes the least by a key of decided round d,
+/// crash round c and number i. The right key is (d, c != 0, i).
+pub const FIRSTS: [(&str, Change); 7] = [
+    ("the lower number first, crash or not", |s, run| {
+        first_by(s, run, |d, _, i| (d, i))
+    }),
+    ("a crashing process first", |s, run| {
+        first_by(s, run, |d, c, i| (d, c == 0, i))
+    }),
+    ("the smaller crash round first", |s, run| {
+        first_by(s, run, |d, c, i| (d, c, i))
+    }),
+    ("the larger crash round first", |s, run| {
+        first_by(s, run, |d, c, i| (d, c != 0, Reverse(c), i))
+    }),
+    ("a crash after stopping taken for none", |s, run| {
+        first_by(s, run, |d, c, i| (d, c == d + 1, i))
+    }),
+    ("a survivor first, whatever its round", |s, run| {
+        first_by(s, run, |d, c, i| (c != 0, d, i))
+    }),
+    ("the higher number first", |s, run| {
+        first_by(s, run, |d, c, i| (d, c != 0, Reverse(i)))
+    }),
+];
+
+/// Makes the least process by a key, of those that decided, the first decider.
+fn first_by<K: Ord>(schedule: &Schedule, run: &mut Run, key: impl Fn(u8, u8, usize) -> K) {
+    let decided = (1..=schedule.n).filter(|i| run.rounds[i - 1] != 0);
+    let first = decided.min_by_key(|i| key(run.rounds[i - 1], schedule.crashes[i - 1], *i));
+    run.counts.first = first.unwrap_or(0);
+}
+
 /// A process acts in its crash round: it shows the decision of another one that decides there. (The fifth wrong turn
 /// that document 01 names.)
 pub fn acts_in_crash_round(schedule: &Schedule, run: &mut Run) {
@@ -202,13 +237,6 @@ pub fn acts_in_crash_round(schedule: &Schedule, run: &mut Run) {
             run.rounds[i - 1] = crash;
         }
     }
-}
-
-/// Among equals the highest number is first.
-pub fn highest_first(_: &Schedule, run: &mut Run) {
-    let first = run.rounds[run.counts.first - 1];
-    let highest = run.rounds.iter().rposition(|round| *round == first);
-    run.counts.first = highest.map_or(0, |place| place + 1);
 }
 
 /// A report with one byte changed, when the largest cluster runs.
@@ -418,15 +446,22 @@ mod tests {
     const I: &[Crash] = &[(1, 2, 0b1110)];
     const J: &[Crash] = &[(1, 4, 0b1110)];
 
-    /// The messages that each wrong turn of counting gives, in their order; n = 4, t = 3, all votes 1.
-    fn counted(crashes: &[Crash]) -> [usize; 4] {
+    /// The counts that each of the wrong turns gives, in their order; n = 4, t = 3, all votes 1.
+    fn changed<const N: usize>(turns: [(&str, Change); N], crashes: &[Crash]) -> [Counts; N] {
         let mut schedule = Schedule::quiet(4, 3);
         for (i, round, reach) in crashes {
             schedule.crashes[i - 1] = *round;
             schedule.reaches[i - 1] = *reach;
         }
-        let run = |change| changed_run(&schedule, Member::after, change);
-        COUNTS.map(|(_, change)| run(change).counts.messages)
+        turns.map(|(_, change)| changed_run(&schedule, Member::after, change).counts)
+    }
+
+    fn counted(crashes: &[Crash]) -> [usize; 4] {
+        changed(COUNTS, crashes).map(|counts| counts.messages)
+    }
+
+    fn firsts(crashes: &[Crash]) -> [usize; 7] {
+        changed(FIRSTS, crashes).map(|counts| counts.first)
     }
 
     /// The first of each is the count that document 01 gave, before K1; H there reaches nobody, and 44 + 2 is 46.
@@ -438,5 +473,22 @@ mod tests {
         assert_eq!(counted(H), [46, 24, 36, 35]);
         assert_eq!(counted(I), [43, 23, 33, 33]);
         assert_eq!(counted(J), [48, 24, 36, 39]);
+    }
+
+    /// The right first deciders are 1, 2, 2, 2, 3, 1 and 1.
+    #[test]
+    fn wrong_orders_of_the_first_decider() {
+        assert_eq!(firsts(&[]), [1, 1, 1, 1, 1, 1, 4]);
+        assert_eq!(firsts(D), [2, 2, 2, 2, 2, 2, 4]);
+        assert_eq!(firsts(H), [1, 1, 2, 2, 2, 2, 4]);
+        assert_eq!(firsts(J), [1, 1, 2, 2, 1, 2, 4]);
+        // Process 3 decides in round 2, and the survivors 1 and 2 in round 3.
+        let smaller_round = [(4, 2, 0b0100), (3, 3, 0)];
+        assert_eq!(firsts(&smaller_round), [3, 3, 3, 3, 3, 1, 3]);
+        // Processes 1 and 2 decide in round 2, and the survivor 4 in round 3.
+        let later_and_sooner = [(3, 2, 0b0011), (1, 4, 0), (2, 3, 0)];
+        assert_eq!(firsts(&later_and_sooner), [1, 1, 2, 1, 1, 4, 2]);
+        let sooner_and_later = [(3, 2, 0b0011), (1, 3, 0), (2, 4, 0)];
+        assert_eq!(firsts(&sooner_and_later), [1, 1, 1, 2, 2, 4, 2]);
     }
 }

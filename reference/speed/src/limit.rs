@@ -76,6 +76,8 @@ struct Run {
     zero: Set,
     /// Processes that decided.
     decided: Set,
+    /// Those of them that decided in the smallest decided round.
+    earliest: Set,
     /// Processes that decided in the round before: they say so now, and stop.
     told: Set,
     messages: usize,
@@ -97,6 +99,7 @@ impl Run {
             alive: first(s.n),
             zero: votes.fold(0, |set, (place, &vote)| set | Set::from(1 - vote) << place),
             decided: 0,
+            earliest: 0,
             told: 0,
             messages: 0,
         }
@@ -140,27 +143,37 @@ impl Run {
         }
         self.zero = zero;
         self.told = decided;
+        if self.decided == 0 {
+            self.earliest = decided;
+        }
         self.decided |= decided;
         self.alive = completing;
     }
 
-    /// The decisions and the counts of the ended run.
-    fn answer(&self, s: &Schedule, decisions: &mut [u8], rounds: &[u8]) -> Counts {
-        let (mut first, mut last) = (0, 0);
+    /// The number of the first decider, when these processes survive. Document 02, K3: of those that decided in the smallest round a
+    /// survivor goes before one that crashes, and only then the lower number.
+    fn first_decider(&self, survivors: Set) -> usize {
+        let ahead = match self.earliest & survivors {
+            0 => self.earliest,
+            surviving => surviving,
+        };
+        ahead.trailing_zeros() as usize + 1
+    }
+
+    /// The decisions and the counts of the ended run, which these processes survive.
+    fn answer(&self, s: &Schedule, survivors: Set, decisions: &mut [u8], rounds: &[u8]) -> Counts {
+        let mut last = 0;
         for (place, decision) in decisions.iter_mut().enumerate() {
             let round = rounds[place];
             *decision = match round {
                 0 => NONE,
                 _ => 1 - (self.zero >> place & 1) as u8,
             };
-            if round != 0 && (first == 0 || round < rounds[first - 1]) {
-                first = place + 1;
-            }
             last = last.max(round);
         }
         Counts {
             f: s.crashes.iter().filter(|&&crash| crash != 0).count(),
-            first,
+            first: self.first_decider(survivors),
             last: usize::from(last),
             messages: self.messages,
         }
@@ -186,5 +199,5 @@ pub fn simulate(s: &Schedule, decisions: &mut [u8], rounds: &mut [u8]) -> Result
         }
         run.play(s, r, crashing, rounds);
     }
-    Ok(run.answer(s, decisions, rounds))
+    Ok(run.answer(s, crashing[0], decisions, rounds))
 }
