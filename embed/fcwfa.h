@@ -32,9 +32,9 @@ extern "C" {
  * it. It changes with what a program must know to call the library.
  */
 #define FCWFA_VERSION_MAJOR 0
-#define FCWFA_VERSION_MINOR 2
+#define FCWFA_VERSION_MINOR 3
 #define FCWFA_VERSION_PATCH 0
-#define FCWFA_VERSION "0.2.0"
+#define FCWFA_VERSION "0.3.0"
 
 /* The largest number of processes. */
 #define FCWFA_LARGEST_N 32
@@ -138,7 +138,10 @@ uint8_t fcwfa_hear(uint8_t state[FCWFA_STATE_BYTES], const uint8_t *row,
 #define FCWFA_COUNTS 4
 /* How many processes crash. */
 #define FCWFA_COUNT_F 0
-/* The process that decided first; among equals the lowest number. */
+/*
+ * The process to call: the one that decided in the smallest round; among equals
+ * one that never crashes goes before one that crashes, and then the lower number.
+ */
 #define FCWFA_COUNT_FIRST 1
 /* The largest decided round. */
 #define FCWFA_COUNT_LAST 2

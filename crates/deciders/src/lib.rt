@@ -1,27 +1,48 @@
-// The first decider and the last round of a run (document 01, "Who hears whom"), from the table of the
-// decided rounds: the process at place i, whose number is i + 1, decided in round `rounds[i]`, or not at
-// all if that is 0.
+// The first decider and the last round of a run (document 01, "Who hears whom"; document 02, K3), from the
+// tables of crash rounds and of decided rounds: the process at place i, whose number is i + 1, crashes in
+// round `crashes[i]`, or never if that is 0, and decided in round `rounds[i]`, or not at all if that is 0.
+// There are as many processes as decided rounds. Both tables may have any length: one past the end of the
+// crash rounds never crashes.
 ghost use mathlib.Core.Path.{_≡_};
-ghost use Prim.Native.Nat.{_≤_, _<_, max};
+ghost use Prim.Native.Nat.{_<_, max};
 ghost use lib.ListN.{length, getD};
-ghost use Rattle.run.specs.Report.{before, firstWith, firstOf, lastOf};
+ghost use Rattle.run.specs.Report.{ahead, everCrashes, before, firstWith, firstOf, lastOf};
+use sets::byte_at;
 
-// Whether the process at place i goes before the one at place k: it decided in an earlier round, or in
-// the same one and has the lower number.
-fn goes_before(rounds: &[u8], i: usize, k: usize) -> bool
-    requires places { ⌜ (i < length (now rounds)) × (k < length (now rounds)) ⌝ }
-    ensures tested { λ r. ⌜ r ≡ before (λ j. getD (now (rounds .entry)) j 0) i k ⌝ }
+// By the numbers x and y of two processes: the smaller goes ahead, and where they are equal the next test
+// tells.
+fn is_ahead(x: u8, y: u8, next: bool) -> bool
+    ensures tested { λ r. ⌜ r ≡ ahead x y next ⌝ }
 {
-    let own = rounds[i];
-    let other = rounds[k];
-    own < other || (own == other && i < k)
+    x < y || (x == y && next)
+}
+
+// 1 if the process at place i crashes, 0 if it never does: in which round makes no difference.
+fn ever_crashes(crashes: &[u8], i: usize) -> u8
+    ensures told { λ r. ⌜ r ≡ everCrashes (getD (now (crashes .entry)) i 0) ⌝ }
+{
+    let crash = byte_at(crashes, i);
+    if crash == 0 { 0 } else { 1 }
+}
+
+// Whether the process at place i goes before the one at place k: it decided in an earlier round; or in the
+// same one, and it never crashes where the other does; or both do or both do not, and it has the lower
+// number.
+fn goes_before(crashes: &[u8], rounds: &[u8], i: usize, k: usize) -> bool
+    ensures tested { λ r. ⌜ r ≡ before (λ j. getD (now (crashes .entry)) j 0) (λ j. getD (now (rounds .entry)) j 0) i k ⌝ }
+{
+    let own = ever_crashes(crashes, i);
+    let other = ever_crashes(crashes, k);
+    let own_round = byte_at(rounds, i);
+    let other_round = byte_at(rounds, k);
+    is_ahead(own_round, other_round, is_ahead(own, other, i < k))
 }
 
 // The number of the first decider, 0 for none, after the process at place i is looked at as well; it was
 // `first` before.
-fn first_with(rounds: &[u8], i: usize, first: usize) -> usize
-    requires places { ⌜ (i < length (now rounds)) × (first ≤ length (now rounds)) ⌝ }
-    ensures found { λ r. ⌜ r ≡ firstWith (λ j. getD (now (rounds .entry)) j 0) i first ⌝ }
+fn first_with(crashes: &[u8], rounds: &[u8], i: usize, first: usize) -> usize
+    requires place { ⌜ i < length (now rounds) ⌝ }
+    ensures found { λ r. ⌜ r ≡ firstWith (λ j. getD (now (crashes .entry)) j 0) (λ j. getD (now (rounds .entry)) j 0) i first ⌝ }
 {
     let round = rounds[i];
     let number = i + 1;
@@ -31,20 +52,20 @@ fn first_with(rounds: &[u8], i: usize, first: usize) -> usize
     if first == 0 {
         return number;
     }
-    if goes_before(rounds, i, first - 1) {
+    if goes_before(crashes, rounds, i, first - 1) {
         return number;
     }
     first
 }
 
-// The number of the first decider, 0 for none, from the decided rounds (0 for none).
-pub fn first_decider(rounds: &[u8]) -> usize
-    ensures found { λ r. ⌜ r ≡ firstOf (λ i. getD (now (rounds .entry)) i 0) (length (now (rounds .entry))) ⌝ }
+// The number of the first decider, 0 for none.
+pub fn first_decider(crashes: &[u8], rounds: &[u8]) -> usize
+    ensures found { λ r. ⌜ r ≡ firstOf (λ i. getD (now (crashes .entry)) i 0) (λ i. getD (now (rounds .entry)) i 0) (length (now (rounds .entry))) ⌝ }
 {
     let mut first: usize = 0;
     let mut i: usize = 0;
     while i < rounds.len() {
-        first = first_with(rounds, i, first);
+        first = first_with(crashes, rounds, i, first);
         i += 1;
     }
     first

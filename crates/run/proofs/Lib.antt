@@ -18,6 +18,7 @@ pub mod FcwfaRun
 pub mod Demand
 pub mod Reported
 pub mod Given
+pub mod Before
 pub mod Deciders
 pub mod NoneRefused
 pub mod OwnAnswers

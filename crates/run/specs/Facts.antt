@@ -79,7 +79,17 @@ pub record FirstIs (s : Schedule) (i : ℕ) : Type 0 where
   pub reported : report fcwfa s .first ≡ i + 1
   pub process : i < s .n
   pub decides : roundOf (final fcwfa s) i ≢ 0
-  pub goes-before : (k : ℕ) → k < s .n → k ≢ i → roundOf (final fcwfa s) k ≢ 0 → before (roundOf (final fcwfa s)) i k ≡ true
+  pub goes-before : (k : ℕ) → k < s .n → k ≢ i → roundOf (final fcwfa s) k ≢ 0 → before (crashOf s) (roundOf (final fcwfa s)) i k ≡ true
+
+-- What follows of the first decider from that alone, in document 02's words: its round is the smallest decided round; and if any process that never
+-- crashes decides in it, the first never crashes, so that whoever calls it up gets a reply ("a crashed one doesn't reply"). Proved in
+-- proofs/Deciders.antt: `survivors-ahead : (s : Schedule) (i : ℕ) → FirstIs s i → SurvivorsAhead s i`.
+pub record SurvivorsAhead (s : Schedule) (i : ℕ) : Type 0 where
+  pub smallest : (k : ℕ) → k < s .n → roundOf (final fcwfa s) k ≢ 0 → roundOf (final fcwfa s) i ≤ roundOf (final fcwfa s) k
+  pub survives : (k : ℕ) → k < s .n → roundOf (final fcwfa s) k ≡ roundOf (final fcwfa s) i → crashOf s k ≡ 0 → crashOf s i ≡ 0
+  -- "and only then the lower number": of those in its round that never crash, and, where it crashes itself, of all in its round
+  pub lowest-survivor : (k : ℕ) → k < s .n → roundOf (final fcwfa s) k ≡ roundOf (final fcwfa s) i → crashOf s k ≡ 0 → i ≤ k
+  pub lowest-of-all : (k : ℕ) → k < s .n → roundOf (final fcwfa s) k ≡ roundOf (final fcwfa s) i → crashOf s i ≢ 0 → i ≤ k
 
 -- process i is one that decides in the reported last round, and none decides later
 pub record LastIs (s : Schedule) (i : ℕ) : Type 0 where
@@ -92,6 +102,7 @@ pub record LastIs (s : Schedule) (i : ℕ) : Type 0 where
 pub record Deciders (s : Schedule) : Type 0 where
   pub first : ℕ
   pub first-is : FirstIs s first
+  pub survivors-ahead : SurvivorsAhead s first
   pub last : ℕ
   pub last-is : LastIs s last
 

@@ -8,7 +8,7 @@ use lib.ListN.{getD}
 use Rattle.laws.specs.Below.{sum, tabulate, fold}
 use Rattle.member.specs.declared.Member.{Member}
 use Rattle.member.specs.Saying.{nothing}
-use Rattle.schedule.specs.Schedule.{Schedule, crashCount}
+use Rattle.schedule.specs.Schedule.{Schedule, crashOf, crashCount}
 use Rattle.run.specs.Protocol.{Protocol}
 use Rattle.run.specs.Run.{completesRound, stateAt, codeSaid, statesAfter, final}
 
@@ -30,11 +30,20 @@ sentBy n r c reach code =
     (cond (eqb c r) (ones reach)
     0))
 
--- First and last, from the decided rounds of the processes at places 0, 1, .., 0 for none.
-module _ (round : ℕ → ℕ) where
-  -- Whether i goes before k, two processes that decided: "the one with the smallest decided round, the lowest number among equals"
+-- By the numbers x and y of two processes: the smaller goes ahead, and where they are equal the next test tells.
+unfoldable pub ahead : ℕ → ℕ → Bool → Bool
+ahead x y next = ltb x y || (eqb x y && next)
+
+-- 0 for "a process whose crash round is 0", 1 for "one that crashes", in whatever round
+unfoldable pub everCrashes : ℕ → ℕ
+everCrashes c = cond (eqb c 0) 0 1
+
+-- First, from the crash rounds of the processes at places 0, 1, .., 0 for never, and from their decided rounds, 0 for none.
+module _ (crash round : ℕ → ℕ) where
+  -- Whether i goes before k, two processes that decided: "the one with the smallest decided round", and "Among equal smallest rounds a process whose
+  -- crash round is 0 now goes before one that crashes, and only then the lower number."
   unfoldable pub before : ℕ → ℕ → Bool
-  before i k = ltb (round i) (round k) || (eqb (round i) (round k) && ltb i k)
+  before i k = ahead (round i) (round k) (ahead (everCrashes (crash i)) (everCrashes (crash k)) (ltb i k))
 
   -- the number of the first decider among the processes looked at, 0 for none: `found` before process i is looked at, and with it
   unfoldable pub firstWith : ℕ → ℕ → ℕ
@@ -44,9 +53,9 @@ module _ (round : ℕ → ℕ) where
   unfoldable pub firstOf : ℕ → ℕ
   firstOf n = fold n firstWith 0
 
-  -- "last, the largest decided round"
-  unfoldable pub lastOf : ℕ → ℕ
-  lastOf n = fold n (λ i found. max found (round i)) 0
+-- "last, the largest decided round": of n processes with these decided rounds
+unfoldable pub lastOf : (ℕ → ℕ) → ℕ → ℕ
+lastOf round n = fold n (λ i found. max found (round i)) 0
 
 -- Of n processes whose crash rounds and reaches stand in these tables, in round r, in which the process at place j says `code j`: what sender j adds,
 abbrev pub sentFrom : List ℕ → List ℕ → ℕ → (ℕ → ℕ) → ℕ → ℕ → ℕ
@@ -82,7 +91,7 @@ module _ (P : Protocol) (s : Schedule) where
   abbrev pub report : Report
   report = record {
     f = crashCount s;
-    first = firstOf (roundOf (final P s)) (s .n);
+    first = firstOf (crashOf s) (roundOf (final P s)) (s .n);
     last = lastOf (roundOf (final P s)) (s .n);
     messages = messages;
     decisions = tabulate (s .n) (decisionOf (final P s));

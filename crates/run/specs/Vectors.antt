@@ -13,9 +13,13 @@ use Rattle.run.specs.Protocol.{fcwfa, nobody, byCalls}
 use Rattle.run.specs.Report.{firstOf, lastOf, report}
 use Rattle.run.specs.Demand.{roundB, mostMessages}
 
--- the decided rounds of four processes, 0 for none
-abbrev pub decidedIn : List ℕ → ℕ → ℕ
-decidedIn rounds i = getD rounds i 0
+-- the rounds that stand in a table, 0 past its end
+abbrev pub roundsIn : List ℕ → ℕ → ℕ
+roundsIn table i = getD table i 0
+
+-- the first decider of four processes with these crash rounds and these decided rounds
+abbrev pub firstOfFour : List ℕ → List ℕ → ℕ
+firstOfFour crashes rounds = firstOf (roundsIn crashes) (roundsIn rounds) 4
 
 -- a member of four in round 9, which is not in range: t is 3
 abbrev pub lateMember : Member
@@ -30,10 +34,13 @@ pub record RunVectors : Type 0 where
   pub bound-met : report fcwfa (scheduleOf 4 3 allOne allZero allZero) .messages ≡ mostMessages 4 3 0
   -- crash rounds from 1 to r, of those of case E: none to round 0, one to round 1, two to round 2, three to round 3
   pub crashed-by : map (crashedBy (scheduleOf 4 3 allOne (four 1 3 0 2) allZero)) (four 0 1 2 3) ≡ four 0 1 2 3
-  -- "the one with the smallest decided round, the lowest number among equals"; 0 for none
-  pub first : map (λ rounds. firstOf (decidedIn rounds) 4) (four 3 2 2 0 ∷ four 0 4 0 3 ∷ allZero ∷ []) ≡ 2 ∷ 4 ∷ 0 ∷ []
+  -- "the one with the smallest decided round": a process that crashes, with the smaller round; two that never crash; and 0 for none
+  pub first-by-round : map (firstOfFour (four 4 0 0 0)) (four 2 3 3 0 ∷ four 4 3 3 0 ∷ four 0 4 0 3 ∷ allZero ∷ []) ≡ 1 ∷ 2 ∷ 4 ∷ 0 ∷ []
+  -- "Among equal smallest rounds a process whose crash round is 0 now goes before one that crashes, and only then the lower number": case H, "from 1 to
+  -- 2"; the last of four; all crash, and the lower numbers later; and nobody crashes
+  pub first-survivor : map (λ crashes. firstOfFour crashes (four 2 2 2 2)) (four 3 0 0 0 ∷ four 3 4 4 0 ∷ four 4 3 2 1 ∷ allZero ∷ []) ≡ 2 ∷ 4 ∷ 1 ∷ 1 ∷ []
   -- "the largest decided round"
-  pub last : map (λ rounds. lastOf (decidedIn rounds) 4) (four 3 2 2 0 ∷ four 0 4 0 3 ∷ allZero ∷ []) ≡ 3 ∷ 4 ∷ 0 ∷ []
+  pub last : map (λ rounds. lastOf (roundsIn rounds) 4) (four 3 2 2 0 ∷ four 0 4 0 3 ∷ allZero ∷ []) ≡ 3 ∷ 4 ∷ 0 ∷ []
   -- what the answers of calls come to: an opening with n = 3, and a member in a round past the last, which says nothing and keeps its state whatever it
   -- hears; and calls that are accepted
   pub refused-opening : map (λ n. byCalls largest fcwfa .opening n 3 1 1) (3 ∷ 4 ∷ []) ≡ nobody ∷ opening 4 3 1 1 ∷ []

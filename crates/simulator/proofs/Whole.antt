@@ -13,7 +13,7 @@ use Rattle.laws.proofs.Lists.{length-tabulate, getD-tabulate, tabulate-same}
 use Rattle.laws.proofs.Answer.{answer-accepted, answer-refused, valueOr, not-accepted, place-given, place-kept}
 use Rattle.member.specs.declared.Member.{Member}
 use Rattle.sets.specs.Largest.{largest}
-use Rattle.schedule.specs.Schedule.{Schedule, crashesIn}
+use Rattle.schedule.specs.Schedule.{Schedule, crashOf, crashesIn}
 use Rattle.schedule.specs.Questions.{answersOf, question, Accepted}
 use Rattle.schedule.proofs.Accepted.{both-long, question-accepted}
 use Rattle.run.specs.Protocol.{Protocol, fcwfa, nobody}
@@ -112,7 +112,7 @@ module _ (P : Protocol) (s : Schedule) (decisions rounds : List ℕ) {ran : Ran}
         (r : rounds-now ≡ tabulate (length rounds) (roundOf (ran .members)))
         (found : c ≡ record {
           f = crashesIn (length (s .crashes)) (s .crashes);
-          first = firstOf (λ i. getD rounds-now i 0) (length rounds-now);
+          first = firstOf (crashOf s) (λ i. getD rounds-now i 0) (length rounds-now);
           last = lastOf (λ i. getD rounds-now i 0) (length rounds-now);
           messages = ran .messages;
         }) where
@@ -127,7 +127,7 @@ module _ (P : Protocol) (s : Schedule) (decisions rounds : List ℕ) {ran : Ran}
           found
           ∙ (λ i. record {
             f = crashesIn (accepts .crashes-long i) (s .crashes);
-            first = firstOf (rounds-at i) (rounds-long i);
+            first = firstOf (crashOf s) (rounds-at i) (rounds-long i);
             last = lastOf (rounds-at i) (rounds-long i);
             messages = messages-are i;
           })

@@ -38,14 +38,14 @@ pub fn fill(members: [Member; WIDTH], decisions: &mut [u8], rounds: &mut [u8])
 pub fn counts_of(crashes: &[u8], rounds: &[u8], messages: usize) -> Counts
     ensures counted { λ r. ⌜ r ≡ record {
       f = crashesIn (length (now (crashes .entry))) (now (crashes .entry));
-      first = firstOf (λ i. getD (now (rounds .entry)) i 0) (length (now (rounds .entry)));
+      first = firstOf (λ i. getD (now (crashes .entry)) i 0) (λ i. getD (now (rounds .entry)) i 0) (length (now (rounds .entry)));
       last = lastOf (λ i. getD (now (rounds .entry)) i 0) (length (now (rounds .entry)));
       messages = messages;
     } ⌝ }
 {
     Counts {
         f: acceptance::crash_count(crashes),
-        first: deciders::first_decider(rounds),
+        first: deciders::first_decider(crashes, rounds),
         last: deciders::last_round(rounds) as usize,
         messages: messages,
     }

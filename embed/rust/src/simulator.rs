@@ -8,7 +8,8 @@ use crate::{Decided, Decision, Refusal, Set, Vote, LARGEST};
 pub struct Counts {
     /// How many processes crash.
     pub f: usize,
-    /// The process that decided first; among equals the lowest number.
+    /// The process to call: the one that decided in the smallest round; among equals one that never crashes goes before one that crashes, and
+    /// then the lower number.
     pub first: usize,
     /// The largest decided round.
     pub last: usize,

@@ -86,6 +86,19 @@ fn a_schedule_is_run_to_its_end() {
     assert_eq!(report, Ok(expected));
 }
 
+/// All four decide in round 2. Process 1 crashes, in round 3 or after it has stopped, and one that never crashes is named first.
+#[test]
+fn a_survivor_is_first_among_equals() {
+    let first = |crashes: [u8; 4]| {
+        let report = simulate(4, 3, &[Vote::Commit; 4], &crashes, &[0; 4]);
+        report.map(|report| report.counts.first)
+    };
+    assert_eq!(first([0, 0, 0, 0]), Ok(1));
+    assert_eq!(first([3, 0, 0, 0]), Ok(2));
+    assert_eq!(first([4, 0, 0, 0]), Ok(2));
+    assert_eq!(first([3, 4, 4, 0]), Ok(4));
+}
+
 #[test]
 fn a_schedule_that_breaks_a_rule_is_refused() {
     let votes = [Vote::Commit; 4];

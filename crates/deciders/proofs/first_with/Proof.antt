@@ -21,16 +21,18 @@ add-number c = search needs
 
 returns : tie.Need-returns
 returns c =
-    let a = c .before .before .before .args in
+    let a = c .before .before .before .before .args in
+    let C : ℕ → ℕ = λ j. getD (a .crashes .now) j 0 in
     let R : ℕ → ℕ = λ j. getD (a .rounds .now) j 0 in
-    omega (arith, passes-over R (a .i) (a .first) (omega arith))
+    omega (arith, passes-over C R (a .i) (a .first) (omega arith))
 
 returns-2 : tie.Need-returns-2
 returns-2 c =
-    let a = c .before .before .before .before .args in
+    let a = c .before .before .before .before .before .args in
+    let C : ℕ → ℕ = λ j. getD (a .crashes .now) j 0 in
     let R : ℕ → ℕ = λ j. getD (a .rounds .now) j 0 in
     let none = eq-eqb (a .first) 0 (omega arith) in
-    omega (arith, puts-first R (a .i) (a .first) (c .before .if1 .left) (or-left (eqb (a .first) 0) (before R (a .i) (a .first - 1)) none))
+    omega (arith, puts-first C R (a .i) (a .first) (c .before .if1 .left) (or-left (eqb (a .first) 0) (before C R (a .i) (a .first - 1)) none))
 
 sub-goes-before : tie.Need-sub-goes-before
 sub-goes-before c = search needs
@@ -40,18 +42,20 @@ goes-before-requires c κs = search needs
 
 returns-3 : tie.Need-returns-3
 returns-3 c =
-    let a = c .before .before .before .before .before .before .args in
+    let a = c .before .before .before .before .before .before .before .args in
+    let C : ℕ → ℕ = λ j. getD (a .crashes .now) j 0 in
     let R : ℕ → ℕ = λ j. getD (a .rounds .now) j 0 in
     let goes = sym (c .before .goes-before .ensures) ∙ c .if3 .taken in
-    omega (arith, puts-first R (a .i) (a .first) (c .before .before .before .if1 .left) (or-right (eqb (a .first) 0) (before R (a .i) (a .first - 1)) goes))
+    omega (arith, puts-first C R (a .i) (a .first) (c .before .before .before .if1 .left) (or-right (eqb (a .first) 0) (before C R (a .i) (a .first - 1)) goes))
 
 returns-4 : tie.Need-returns-4
 returns-4 c =
-    let a = c .before .before .before .before .before .before .args in
+    let a = c .before .before .before .before .before .before .before .args in
+    let C : ℕ → ℕ = λ j. getD (a .crashes .now) j 0 in
     let R : ℕ → ℕ = λ j. getD (a .rounds .now) j 0 in
     let some = ne-eqb (a .first) 0 (c .before .before .if2 .left) in
     let after = sym (c .before .goes-before .ensures) ∙ c .if3 .left in
-    omega (arith, leaves-first R (a .i) (a .first) (or-neither (eqb (a .first) 0) (before R (a .i) (a .first - 1)) some after))
+    omega (arith, leaves-first C R (a .i) (a .first) (or-neither (eqb (a .first) 0) (before C R (a .i) (a .first - 1)) some after))
 
 pub first-with-spec : {M : Type 1} → statement M
 first-with-spec =
