@@ -4,10 +4,10 @@ use mathlib.Core.Path.{_≡_, sym, ap, _∙_}
 use mathlib.Core.Logic.{_≢_, _⊎_, inl, inr}
 use mathlib.Core.List.{List, [], _++_}
 use mathlib.Core.Bool.{Bool, cond, _&&_}
-use Prim.Native.Nat.{ℕ, _+_, _≤_, _<_, zero-le}
+use Prim.Native.Nat.{ℕ, _+_, _≤_, _<_, min, zero-le}
 use native.Mathlib.Omega.{arith}
 use lib.Dec.{eqb, ltb}
-use lib.ListN.{getD, set, drop, replicate, length-set}
+use lib.ListN.{length, getD, set, drop, replicate, length-set, List·getD-eq-default}
 use lib.Seq.{ext-getD, set-append-left, getD-set-same, getD-set-other}
 use borrow.Author.Tests.{eq-eqb, ne-eqb, eqb-true, eqb-false, lt-ltb, le-ltb}
 use Rattle.laws.specs.Below.{tabulate}
@@ -50,6 +50,24 @@ module _ (r i c reach code : ℕ) where
 -- the code of a process that completes the round, of a crash round that was read from the table
 pub completing-code : (r code c : ℕ) {b : Bool} {crash : ℕ} → b ≡ completesRound r crash → crash ≡ c → cond b code nothing ≡ cond (completesRound r c) code nothing
 completing-code r code c e same = ap (λ (x : Bool). cond x code nothing) (e ∙ ap (completesRound r) same)
+
+-- the codes of all that complete the round, where those that have a crash round in the table were entered in a row, and then the rest, which never crash
+module _ (r n known : ℕ) (crashes codes row : List ℕ) (all : known ≡ min n (length crashes)) where
+  abbrev completing : ℕ → ℕ
+  completing j = cond (completesRound r (getD crashes j 0)) (getD codes j 0) nothing
+
+  pub completing-rest : {whole : List ℕ} → Overwritten known completing (replicate largest 0) row
+      → whole ≡ padded n (λ j. cond (ltb j known) (getD row j 0) (getD codes j 0)) → whole ≡ padded n completing
+  completing-rest over e = over-so (record { is = e }) each .is
+    where
+      each : (j : ℕ) → j < n → cond (ltb j known) (getD row j 0) (getD codes j 0) ≡ completing j
+      each j l =
+          elim (split known j) [
+            | inr h ↦ cond-true (ltb j known) _ _ (lt-ltb j known h) ∙ over-at over j 0 h
+            | inl h ↦
+                cond-false (ltb j known) _ _ (le-ltb j known h)
+                ∙ sym (cond-true _ _ _ (completed r (getD crashes j 0) (inl (List·getD-eq-default crashes 0 (omega arith)))))
+          ]
 
 -- a table with one entry changed
 set-tabulate : (n : ℕ) (f g : ℕ → ℕ) (j x : ℕ) → j < n → x ≡ g j → ((k : ℕ) → k ≢ j → f k ≡ g k) → set (tabulate n f) j x ≡ tabulate n g

@@ -4,8 +4,8 @@
 // that crashes in the round is entered in the rows of the processes that its reach names.
 ghost use mathlib.Core.Path.{_≡_};
 ghost use mathlib.Core.Bool.{cond, not};
-ghost use lib.Dec.{eqb};
-ghost use Prim.Native.Nat.{ℕ, _-_, _≤_, _<_};
+ghost use lib.Dec.{eqb, ltb};
+ghost use Prim.Native.Nat.{ℕ, _-_, _≤_, _<_, min};
 ghost use lib.ListN.{length, getD};
 ghost use Rattle.laws.specs.Below.{count};
 ghost use Rattle.laws.specs.Filled.{Overwritten};
@@ -18,7 +18,6 @@ use crate::completes;
 use laws::bit;
 use sets::Set;
 use sets::WIDTH;
-use sets::byte_at;
 use sets::is_named;
 use sets::ones;
 use sets::zero_bytes;
@@ -30,18 +29,43 @@ fn heard_or_nothing(heard: bool, code: u8) -> u8
     if heard { code } else { 0 }
 }
 
-// The codes of the processes that complete the round, and nothing for each other.
+// How many of n processes have a crash round in a table of this length.
+fn recorded(n: usize, length: usize) -> usize
+    ensures less { λ r. ⌜ r ≡ min n length ⌝ }
+{
+    if n <= length { n } else { length }
+}
+
+// A row of the first `start` places, with the codes of the places from there up to n entered too.
+fn with_rest(start: usize, n: usize, codes: &[u8; WIDTH], row: [u8; WIDTH]) -> [u8; WIDTH]
+    requires size { ⌜ (start ≤ n) × (n ≤ largest) ⌝ }
+    requires cut { ⌜ row ≡ padded start (λ j. getD row j 0) ⌝ }
+    ensures whole { λ r. ⌜ r ≡ padded n (λ j. cond (ltb j start) (getD row j 0) (getD (now (codes .entry)) j 0)) ⌝ }
+{
+    let mut whole = row;
+    let mut j: usize = start;
+    while j < n {
+        whole[j] = codes[j];
+        j += 1;
+    }
+    whole
+}
+
+// The codes of the processes that complete the round, and nothing for each other. Those past the end of the
+// crash rounds never crash: they are entered apart, so that the others need no test of their place, and sixteen
+// of them are looked at at a time.
 pub fn completing_row(n: usize, round: u8, codes: &[u8; WIDTH], crashes: &[u8]) -> [u8; WIDTH]
     requires size { ⌜ n ≤ largest ⌝ }
     ensures row { λ r. ⌜ r ≡ padded n (λ j. cond (completesRound round (getD (now (crashes .entry)) j 0)) (getD (now (codes .entry)) j 0) nothing) ⌝ }
 {
+    let known = recorded(n, crashes.len());
     let mut row = zero_bytes();
     let mut j: usize = 0;
-    while j < n {
-        row[j] = heard_or_nothing(completes(round, byte_at(crashes, j)), codes[j]);
+    while j < known {
+        row[j] = heard_or_nothing(completes(round, crashes[j]), codes[j]);
         j += 1;
     }
-    row
+    with_rest(known, n, codes, row)
 }
 
 // Stores the row at each of the first n places.

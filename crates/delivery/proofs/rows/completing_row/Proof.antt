@@ -1,24 +1,29 @@
--- `completing_row` meets its contract: each turn enters one sender. Assumes nothing.
+-- `completing_row` meets its contract: each turn enters one sender, and those past the end of the crash rounds come after. Assumes nothing.
 use Prim.Native.Nat.{_-_, _≤_}
 use mathlib.Core.Bool.{cond}
-use mathlib.Core.Path.{_≡_, _∙_}
+use mathlib.Core.Path.{_≡_, refl, sym, _∙_}
 use native.Mathlib.Omega.{arith}
 use borrow.Author.Needs.{needs}
 use lib.ListN.{getD, replicate}
 use Rattle.laws.specs.Filled.{Overwritten}
-use Rattle.laws.proofs.Overwritten.{over-start, over-more, over-all}
+use Rattle.laws.proofs.Overwritten.{over-start, over-more, over-at, over-so, over-all}
 use Rattle.sets.specs.Largest.{largest}
 use Rattle.member.specs.Saying.{nothing}
 use Rattle.run.specs.Run.{completesRound}
-use Rattle.delivery.proofs.Heard.{completing-code}
+use Rattle.delivery.proofs.Heard.{completing-code, completing-rest}
 use Rattle.delivery.proofs.rows.completing_row.Statement.{statement}
 use Rattle.delivery.proofs.rows.completing_row.Tie as tie
 
 abbrev Inv-loop : tie.InvT-loop
-Inv-loop n round codes crashes row₀ j₀ row j = (j ≤ n) × Overwritten j (λ k. cond (completesRound round (getD crashes k 0)) (getD codes k 0) nothing) (replicate largest 0) row
+Inv-loop n round codes crashes known row₀ j₀ row j =
+    (j ≤ known)
+    × Overwritten j (λ k. cond (completesRound round (getD crashes k 0)) (getD codes k 0) nothing) (replicate largest 0) row
 
 abbrev μ-loop : tie.MeasureT-loop
-μ-loop n round codes crashes row₀ j₀ row j = n - j
+μ-loop n round codes crashes known row₀ j₀ row j = known - j
+
+recorded-requires : tie.Need-recorded-requires Inv-loop μ-loop
+recorded-requires c κs = search needs
 
 zero-bytes-requires : tie.Need-zero-bytes-requires Inv-loop μ-loop
 zero-bytes-requires c κs = search needs
@@ -26,8 +31,8 @@ zero-bytes-requires c κs = search needs
 loop-holds : tie.Need-loop-holds Inv-loop μ-loop
 loop-holds c = (omega arith, over-start (c .zero-bytes .ensures .0))
 
-byte-at-requires : tie.Need-byte-at-requires Inv-loop μ-loop
-byte-at-requires c κs = search needs
+shared-slice-read-completes : tie.Need-shared-slice-read-completes Inv-loop μ-loop
+shared-slice-read-completes c = omega arith
 
 completes-requires : tie.Need-completes-requires Inv-loop μ-loop
 completes-requires c κs = search needs
@@ -48,10 +53,26 @@ loop-less : tie.Need-loop-less Inv-loop μ-loop
 loop-less c = omega arith
 
 loop-again : tie.Need-loop-again Inv-loop μ-loop
-loop-again c = (omega arith, over-more (omega arith) (c .before .before .before .before .before .loop .inv .1) (c .heard-or-nothing .ensures ∙ completing-code _ _ _ (c .before .before .completes .ensures) (c .before .before .before .byte-at .ensures)))
+loop-again c =
+    let l = c .before .before .before .before .before .loop in (
+      omega arith,
+      over-more (omega arith) (l .inv .1) (c .heard-or-nothing .ensures ∙ completing-code _ _ _ (c .before .before .completes .ensures) refl),
+    )
+
+with-rest-requires : tie.Need-with-rest-requires Inv-loop μ-loop
+with-rest-requires c κs =
+    let l = c .before .loop in
+    let end : l .j ≡ c .before .before .before .recorded .result = omega arith in
+    let over = over-all (l .inv .1) end in
+    (omega arith, over-so over (λ k h. sym (over-at over k 0 h)) .is)
 
 returns : tie.Need-returns Inv-loop μ-loop
-returns c = let end : c .before .loop .j ≡ c .before .before .before .before .args .n = omega arith in over-all (c .before .loop .inv .1) end .is
+returns c =
+    let l = c .before .before .loop in
+    let a = c .before .before .before .before .before .before .args in
+    let known = c .before .before .before .before .recorded in
+    let end : l .j ≡ known .result = omega arith in
+    completing-rest (a .round) (a .n) (known .result) (a .crashes .now) (a .codes .now) (l .row) (known .ensures) (over-all (l .inv .1) end) (c .with-rest .ensures)
 
 pub completing-row-spec : {M : Type 1} → statement M
 completing-row-spec =
@@ -59,9 +80,10 @@ completing-row-spec =
     (tie.spec
     Inv-loop
     μ-loop
+    recorded-requires
     zero-bytes-requires
     loop-holds
-    byte-at-requires
+    shared-slice-read-completes
     completes-requires
     element-copy-out-heard-or-nothing
     heard-or-nothing-requires
@@ -69,4 +91,5 @@ completing-row-spec =
     add-j
     loop-less
     loop-again
+    with-rest-requires
     returns)
