@@ -58,9 +58,9 @@ module _ (C R : ℕ → ℕ) where
 
   pub before-is : (i k : ℕ) → Before i k → before C R i k ≡ true
   unfolding before
-  before-is i k (sooner h) = ahead-less (R i) (R k) (ahead (E i) (E k) (ltb i k)) h
-  before-is i k (survivor e h) = ahead-equal (R i) (R k) (ahead (E i) (E k) (ltb i k)) e (ahead-less (E i) (E k) (ltb i k) h)
-  before-is i k (lower e q h) = ahead-equal (R i) (R k) (ahead (E i) (E k) (ltb i k)) e (ahead-equal (E i) (E k) (ltb i k) q (lt-ltb i k h))
+  before-is i k (sooner h) = ahead-less (R i) (R k) _ h
+  before-is i k (survivor e h) = ahead-equal (R i) (R k) _ e (ahead-less (E i) (E k) _ h)
+  before-is i k (lower e q h) = ahead-equal (R i) (R k) _ e (ahead-equal (E i) (E k) (ltb i k) q (lt-ltb i k h))
 
   pub is-before : (i k : ℕ) → before C R i k ≡ true → Before i k
   unfolding before
