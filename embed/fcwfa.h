@@ -139,8 +139,9 @@ uint8_t fcwfa_hear(uint8_t state[FCWFA_STATE_BYTES], const uint8_t *row,
 /* How many processes crash. */
 #define FCWFA_COUNT_F 0
 /*
- * The process to call: the one that decided in the smallest round; among equals
- * one that never crashes goes before one that crashes, and then the lower number.
+ * The first decider, the process to ask for the outcome: the one that decided in
+ * the smallest round; among equals one that never crashes goes before one that
+ * crashes, and then the lower number.
  */
 #define FCWFA_COUNT_FIRST 1
 /* The largest decided round. */

@@ -9,8 +9,8 @@ ghost use lib.ListN.{length, getD};
 ghost use Rattle.run.specs.Report.{ahead, everCrashes, before, firstWith, firstOf, lastOf};
 use sets::byte_at;
 
-// By the numbers x and y of two processes: the smaller goes ahead, and where they are equal the next test
-// tells.
+// One step of the order of two processes, by the values x and y that they have in it: the smaller goes
+// ahead, and where they are equal the next step tells.
 fn is_ahead(x: u8, y: u8, next: bool) -> bool
     ensures tested { λ r. ⌜ r ≡ ahead x y next ⌝ }
 {
@@ -31,11 +31,15 @@ fn ever_crashes(crashes: &[u8], i: usize) -> u8
 fn goes_before(crashes: &[u8], rounds: &[u8], i: usize, k: usize) -> bool
     ensures tested { λ r. ⌜ r ≡ before (λ j. getD (now (crashes .entry)) j 0) (λ j. getD (now (rounds .entry)) j 0) i k ⌝ }
 {
-    let own = ever_crashes(crashes, i);
-    let other = ever_crashes(crashes, k);
+    let own_fate = ever_crashes(crashes, i);
+    let other_fate = ever_crashes(crashes, k);
     let own_round = byte_at(rounds, i);
     let other_round = byte_at(rounds, k);
-    is_ahead(own_round, other_round, is_ahead(own, other, i < k))
+    is_ahead(
+        own_round,
+        other_round,
+        is_ahead(own_fate, other_fate, i < k),
+    )
 }
 
 // The number of the first decider, 0 for none, after the process at place i is looked at as well; it was

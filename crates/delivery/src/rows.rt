@@ -36,7 +36,8 @@ fn recorded(n: usize, length: usize) -> usize
     if n <= length { n } else { length }
 }
 
-// A row of the first `start` places, with the codes of the places from there up to n entered too.
+// A row that holds its first `start` places and zeros after them, with the codes of the places from `start`
+// to n - 1 entered too.
 fn with_rest(start: usize, n: usize, codes: &[u8; WIDTH], row: [u8; WIDTH]) -> [u8; WIDTH]
     requires size { ⌜ (start ≤ n) × (n ≤ largest) ⌝ }
     requires cut { ⌜ row ≡ padded start (λ j. getD row j 0) ⌝ }
@@ -52,8 +53,8 @@ fn with_rest(start: usize, n: usize, codes: &[u8; WIDTH], row: [u8; WIDTH]) -> [
 }
 
 // The codes of the processes that complete the round, and nothing for each other. Those past the end of the
-// crash rounds never crash: they are entered apart, so that the others need no test of their place, and sixteen
-// of them are looked at at a time.
+// crash rounds never crash. They are entered apart, so that the loop over the others has no test of places and
+// is compiled to sixteen codes at a time.
 pub fn completing_row(n: usize, round: u8, codes: &[u8; WIDTH], crashes: &[u8]) -> [u8; WIDTH]
     requires size { ⌜ n ≤ largest ⌝ }
     ensures row { λ r. ⌜ r ≡ padded n (λ j. cond (completesRound round (getD (now (crashes .entry)) j 0)) (getD (now (codes .entry)) j 0) nothing) ⌝ }

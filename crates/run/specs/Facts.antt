@@ -74,16 +74,15 @@ pub record Reported (s : Schedule) : Type 0 where
       → Decides fcwfa s i (getD (report fcwfa s .decisions) i 2) (getD (report fcwfa s .rounds) i 0)
   pub undecided : (i : ℕ) → i < s .n → getD (report fcwfa s .rounds) i 0 ≡ 0 → getD (report fcwfa s .decisions) i 2 ≡ 2
 
--- process i is the first to decide, and its number is reported: it decides, and goes before every other process that does
+-- process i is the first decider, and its number is reported: it decides, and goes before every other process that does
 pub record FirstIs (s : Schedule) (i : ℕ) : Type 0 where
   pub reported : report fcwfa s .first ≡ i + 1
   pub process : i < s .n
   pub decides : roundOf (final fcwfa s) i ≢ 0
   pub goes-before : (k : ℕ) → k < s .n → k ≢ i → roundOf (final fcwfa s) k ≢ 0 → before (crashOf s) (roundOf (final fcwfa s)) i k ≡ true
 
--- What follows of the first decider from that alone, in document 02's words: its round is the smallest decided round; and if any process that never
--- crashes decides in it, the first never crashes, so that whoever calls it up gets a reply ("a crashed one doesn't reply"). Proved in
--- proofs/Deciders.antt: `survivors-ahead : (s : Schedule) (i : ℕ) → FirstIs s i → SurvivorsAhead s i`.
+-- What follows of the first decider from that alone: its round is the smallest decided round; and if any process that never crashes decides in it, the
+-- first never crashes ("a crashed one doesn't reply"). Proved in proofs/Deciders.antt: `survivors-ahead : (s : Schedule) (i : ℕ) → FirstIs s i → SurvivorsAhead s i`.
 pub record SurvivorsAhead (s : Schedule) (i : ℕ) : Type 0 where
   pub smallest : (k : ℕ) → k < s .n → roundOf (final fcwfa s) k ≢ 0 → roundOf (final fcwfa s) i ≤ roundOf (final fcwfa s) k
   pub survives : (k : ℕ) → k < s .n → roundOf (final fcwfa s) k ≡ roundOf (final fcwfa s) i → crashOf s k ≡ 0 → crashOf s i ≡ 0

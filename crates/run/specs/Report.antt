@@ -30,7 +30,8 @@ sentBy n r c reach code =
     (cond (eqb c r) (ones reach)
     0))
 
--- By the numbers x and y of two processes: the smaller goes ahead, and where they are equal the next test tells.
+-- One step of the order of two processes, by the values x and y that they have in it: the smaller goes ahead, and where they are equal, "and only
+-- then", the next step tells.
 unfoldable pub ahead : ℕ → ℕ → Bool → Bool
 ahead x y next = ltb x y || (eqb x y && next)
 

@@ -34,11 +34,12 @@ pub record RunVectors : Type 0 where
   pub bound-met : report fcwfa (scheduleOf 4 3 allOne allZero allZero) .messages ≡ mostMessages 4 3 0
   -- crash rounds from 1 to r, of those of case E: none to round 0, one to round 1, two to round 2, three to round 3
   pub crashed-by : map (crashedBy (scheduleOf 4 3 allOne (four 1 3 0 2) allZero)) (four 0 1 2 3) ≡ four 0 1 2 3
-  -- "the one with the smallest decided round": a process that crashes, with the smaller round; two that never crash; and 0 for none
+  -- "the one with the smallest decided round": a process that crashes, with the smaller round; two that never crash, in one round; two in different
+  -- rounds; and 0 for none
   pub first-by-round : map (firstOfFour (four 4 0 0 0)) (four 2 3 3 0 ∷ four 4 3 3 0 ∷ four 0 4 0 3 ∷ allZero ∷ []) ≡ 1 ∷ 2 ∷ 4 ∷ 0 ∷ []
   -- "Among equal smallest rounds a process whose crash round is 0 now goes before one that crashes, and only then the lower number": case H, "from 1 to
-  -- 2"; the last of four; all crash, and the lower numbers later; and nobody crashes
-  pub first-survivor : map (λ crashes. firstOfFour crashes (four 2 2 2 2)) (four 3 0 0 0 ∷ four 3 4 4 0 ∷ four 4 3 2 1 ∷ allZero ∷ []) ≡ 2 ∷ 4 ∷ 1 ∷ 1 ∷ []
+  -- 2"; the last of four; all crash, the lower numbers later, and sooner; and nobody crashes
+  pub first-survivor : map (λ crashes. firstOfFour crashes (four 2 2 2 2)) (four 3 0 0 0 ∷ four 3 4 4 0 ∷ four 4 3 2 1 ∷ four 1 2 3 4 ∷ allZero ∷ []) ≡ 2 ∷ 4 ∷ 1 ∷ 1 ∷ 1 ∷ []
   -- "the largest decided round"
   pub last : map (λ rounds. lastOf (roundsIn rounds) 4) (four 3 2 2 0 ∷ four 0 4 0 3 ∷ allZero ∷ []) ≡ 3 ∷ 4 ∷ 0 ∷ []
   -- what the answers of calls come to: an opening with n = 3, and a member in a round past the last, which says nothing and keeps its state whatever it

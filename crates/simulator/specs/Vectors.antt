@@ -1,4 +1,4 @@
--- Calls of the simulator with their answers and the tables after them, written from document 01 by hand, and the statement that covers them. Proved in
+-- Calls of the simulator with their answers and the tables after them, written from documents 01 and 02 by hand, and the statement that covers them. Proved in
 -- proofs/Vectors.antt, by computing what the definitions give: `simulator-vectors : SimulatorVectors` and `simulated-cases`.
 use Prim.Native.Nat.{ℕ}
 use mathlib.Core.Path.{_≡_}

@@ -1,4 +1,4 @@
--- Texts with their whole output under FCWFA, written from document 01 by hand, and the statements that cover them. Proved in proofs/Vectors.antt:
+-- Texts with their whole output under FCWFA, written from documents 01 and 02 by hand, and the statements that cover them. Proved in proofs/Vectors.antt:
 -- `text-vectors : TextVectors` and `length-vectors : LengthVectors`, each by computing what the definitions give.
 use Prim.Native.Nat.{ℕ}
 use Prim.Native.String.{String}

@@ -8,8 +8,8 @@ use crate::{Decided, Decision, Refusal, Set, Vote, LARGEST};
 pub struct Counts {
     /// How many processes crash.
     pub f: usize,
-    /// The process to call: the one that decided in the smallest round; among equals one that never crashes goes before one that crashes, and
-    /// then the lower number.
+    /// The first decider, the process to ask for the outcome: the one that decided in the smallest round; among equals one that never crashes
+    /// goes before one that crashes, and then the lower number.
     pub first: usize,
     /// The largest decided round.
     pub last: usize,
