@@ -35,11 +35,8 @@ fn goes_before(crashes: &[u8], rounds: &[u8], i: usize, k: usize) -> bool
     let other_fate = ever_crashes(crashes, k);
     let own_round = byte_at(rounds, i);
     let other_round = byte_at(rounds, k);
-    is_ahead(
-        own_round,
-        other_round,
-        is_ahead(own_fate, other_fate, i < k),
-    )
+    let among_equals = is_ahead(own_fate, other_fate, i < k);
+    is_ahead(own_round, other_round, among_equals)
 }
 
 // The number of the first decider, 0 for none, after the process at place i is looked at as well; it was

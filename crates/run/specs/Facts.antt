@@ -82,7 +82,8 @@ pub record FirstIs (s : Schedule) (i : ℕ) : Type 0 where
   pub goes-before : (k : ℕ) → k < s .n → k ≢ i → roundOf (final fcwfa s) k ≢ 0 → before (crashOf s) (roundOf (final fcwfa s)) i k ≡ true
 
 -- What follows of the first decider from that alone: its round is the smallest decided round; and if any process that never crashes decides in it, the
--- first never crashes ("a crashed one doesn't reply"). Proved in proofs/Deciders.antt: `survivors-ahead : (s : Schedule) (i : ℕ) → FirstIs s i → SurvivorsAhead s i`.
+-- first never crashes ("a crashed one doesn't reply"). Proved in proofs/Deciders.antt:
+-- `survivors-ahead : (s : Schedule) (i : ℕ) → FirstIs s i → SurvivorsAhead s i`.
 pub record SurvivorsAhead (s : Schedule) (i : ℕ) : Type 0 where
   pub smallest : (k : ℕ) → k < s .n → roundOf (final fcwfa s) k ≢ 0 → roundOf (final fcwfa s) i ≤ roundOf (final fcwfa s) k
   pub survives : (k : ℕ) → k < s .n → roundOf (final fcwfa s) k ≡ roundOf (final fcwfa s) i → crashOf s k ≡ 0 → crashOf s i ≡ 0
