@@ -3,23 +3,24 @@
 //
 // `question` gives the number of the first question whose answer is no, or 0, and serves calls that
 // take answer tables too; `accepts` answers for the three input tables alone. `process_question` asks
-// about the values of one process, `are_of_size` about the lengths of three tables. `crash_count` reads a
-// table of crash rounds. Each takes anything and answers what the definitions of the crate `schedule`
-// give; none has a `requires`.
+// about the values of one process, `are_of_size` about the lengths of three tables. `crash_count` counts
+// the crashes in a table of crash rounds, up to the one that is too many. Each takes anything and answers
+// what the definitions of the crate `schedule` give; none has a `requires`.
+mod crashes;
 mod process;
 mod tables;
 
+pub use crashes::Counted;
+pub use crashes::crash_count;
 pub use process::process_question;
 pub use tables::are_of_size;
 ghost use mathlib.Core.Path.{_≡_};
-ghost use lib.ListN.{length};
 ghost use Rattle.sets.specs.Largest.{largest};
-ghost use Rattle.schedule.specs.Schedule.{scheduleOf, crashesIn};
+ghost use Rattle.schedule.specs.Schedule.{scheduleOf};
 ghost use Rattle.schedule.specs.Questions.{answersOf, question as Questions·question};
 ghost use Rattle.acceptance.specs.Answers.{acceptanceIs, acceptAnswer};
 use crate::tables::are_answers_long;
 use crate::tables::processes_question;
-use laws::bit;
 use member::size_question;
 use sets::Set;
 
@@ -27,20 +28,6 @@ use sets::Set;
 pub enum Acceptance {
     Accepted,
     Refused(u8),
-}
-
-// The number of processes whose crash round isn't 0.
-pub fn crash_count(crashes: &[u8]) -> usize
-    ensures counted { λ r. ⌜ r ≡ crashesIn (length (now (crashes .entry))) (now (crashes .entry)) ⌝ }
-{
-    let mut f: usize = 0;
-    let mut i: usize = 0;
-    while i < crashes.len() {
-        let crash = crashes[i];
-        f += bit(crash != 0) as usize;
-        i += 1;
-    }
-    f
 }
 
 // The number of the first question of a schedule in tables whose answer is no, or 0. `decisions` and
@@ -70,8 +57,8 @@ pub fn question(
     if number != 0 {
         return number;
     }
-    let f = crash_count(crashes);
-    if t < f {
+    let counted = crash_count(t, crashes);
+    if t < counted.count {
         return 7;
     }
     0

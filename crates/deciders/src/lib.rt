@@ -6,7 +6,9 @@
 ghost use mathlib.Core.Path.{_≡_};
 ghost use Prim.Native.Nat.{_<_, max};
 ghost use lib.ListN.{length, getD};
-ghost use Rattle.run.specs.Report.{ahead, everCrashes, before, firstWith, firstOf, lastOf};
+ghost use Rattle.laws.specs.Below.{bit};
+ghost use Rattle.schedule.specs.Schedule.{everCrashes};
+ghost use Rattle.run.specs.Report.{ahead, before, firstWith, firstOf, lastOf};
 use sets::byte_at;
 
 // One step of the order of two processes, by the values x and y that they have in it: the smaller goes
@@ -19,7 +21,7 @@ fn is_ahead(x: u8, y: u8, next: bool) -> bool
 
 // 1 if the process at place i crashes, 0 if it never does: in which round makes no difference.
 fn ever_crashes(crashes: &[u8], i: usize) -> u8
-    ensures told { λ r. ⌜ r ≡ everCrashes (getD (now (crashes .entry)) i 0) ⌝ }
+    ensures told { λ r. ⌜ r ≡ bit (everCrashes (getD (now (crashes .entry)) i 0)) ⌝ }
 {
     let crash = byte_at(crashes, i);
     if crash == 0 { 0 } else { 1 }

@@ -1,4 +1,4 @@
--- What the simulator gives as numbers: 0 or the number of a refusal, four counts, and two tables.
+-- What the simulator gives as numbers: 0 or the number of a refusal, four counts, and two tables; and what a count of crashes gives: two numbers.
 use Prim.Native.Nat.{ℕ}
 use mathlib.Core.Path.{_≡_}
 use mathlib.Core.List.{List, [], _∷_}
@@ -6,6 +6,7 @@ use lib.ListN.{length, getD}
 use Rattle.laws.specs.Answer.{placeAfter}
 use Rattle.sets.specs.Largest.{largest}
 use Rattle.schedule.specs.Schedule.{Schedule}
+use Rattle.schedule.specs.Counting.{lookedAt, crashesCounted}
 use Rattle.run.specs.Protocol.{fcwfa}
 use Rattle.run.specs.Report.{report}
 use Rattle.run.specs.Given.{GivenDemand3}
@@ -40,3 +41,7 @@ pub record SimulatesNumbers (s : Schedule) (decisions rounds counts : List ℕ) 
   pub rounds-given : roundsNow ≡ roundsAfter fcwfa largest s decisions rounds
   pub counts-given : countsNow ≡ placeAfter (simulateQuestion largest s decisions rounds) (countsNumbers (countsOf (report fcwfa s))) counts
   pub demand-3 : NumbersKeepDemand3 s number countsNow decisionsNow roundsNow
+
+-- "answer, beside the count, the number of the last process it looked at": of t and a table of crash rounds
+abbrev pub countedNumbers : ℕ → List ℕ → List ℕ
+countedNumbers t crashes = crashesCounted t crashes ∷ lookedAt t crashes ∷ []

@@ -1,12 +1,12 @@
-// The simulator for programs in C and Rust: `simulate` on numbers and tables.
+// The simulator for programs in C and Rust: `simulate` and `crash_count` on numbers and tables.
 //
-// It answers 0, or the number of the first question whose answer is no; then what it was lent is as
+// Each call answers 0, or the number of the first question whose answer is no; then what it was lent is as
 // before. It takes any numbers and tables. A caller owes this alone: no pointer is NULL, also where its
 // length is 0, each is good for the number of entries that is said or given with it, and what is written
 // overlaps with nothing else that the call is lent.
 ghost use mathlib.Core.Path.{_≡_};
 ghost use Rattle.schedule.specs.Schedule.{scheduleOf};
-ghost use Rattle.fcwfa_simulator.specs.Numbers.{countsNumbers, SimulatesNumbers};
+ghost use Rattle.fcwfa_simulator.specs.Numbers.{countsNumbers, SimulatesNumbers, countedNumbers};
 use sets::Set;
 use simulator::Counts;
 use simulator::Simulated;
@@ -41,4 +41,16 @@ pub extern "C" fn fcwfa_simulate(
         }
         Simulated::Refused(number) => number,
     }
+}
+
+// Counts the crashes in a table of crash rounds: `counted` gets the count, which ends at the crash that
+// makes t + 1 of them, and the number of the last process looked at. It refuses nothing.
+#[no_mangle]
+pub extern "C" fn fcwfa_count_crashes(t: usize, crashes: &[u8], counted: &mut [usize; 2]) -> u8
+    ensures number { λ r. ⌜ r ≡ 0 ⌝ }
+    ensures counted_after { λ r. ⌜ now (counted .exit) ≡ countedNumbers t (now (crashes .entry)) ⌝ }
+{
+    let found = acceptance::crash_count(t, crashes);
+    *counted = [found.count, found.last];
+    0
 }

@@ -1,6 +1,6 @@
 -- Questions that were passed, and the answer that follows. Assumes nothing.
 use mathlib.Core.Path.{_≡_, refl, sym, ap, _∙_}
-use mathlib.Core.Logic.{_⊎_, inl, inr}
+use mathlib.Core.Logic.{_⊎_, inl, inr, _≢_}
 use mathlib.Core.Bool.{Bool, true, false, false≢true}
 use Prim.Native.Nat.{ℕ, zero, suc, _+_, _<_}
 use native.Mathlib.Nat.{not-suc-le-zero}
@@ -14,20 +14,28 @@ use Rattle.laws.specs.Answer.{ask, andThen, askEach, Answer, accepted, r
 use Rattle.laws.proofs.Test.{true-or-false, cond-true, cond-false}
 use Rattle.laws.proofs.Counting.{Some, split, below-or-top}
 
--- Where a row of questions comes to 0, the first is answered by yes, and the others come to 0.
-pub passed : (b : Bool) (k others : ℕ) → 0 < k → ask b k others ≡ 0 → (b ≡ true) × (others ≡ 0)
+-- Where a row of questions comes to m and the first has another number, that one is answered by yes, and the others come to m.
+pub went-on : (b : Bool) (k others m : ℕ) → k ≢ m → ask b k others ≡ m → (b ≡ true) × (others ≡ m)
 unfolding ask
-passed true k others h e = (refl, e)
-passed false k others h e = absurd (omega arith)
+went-on true k others m h e = (refl, e)
+went-on false k others m h e = absurd (h e)
 
--- Where two rows of questions, one after the other, come to 0, each does; and the other way.
-pub and-then-passed : (q others : ℕ) → andThen q others ≡ 0 → (q ≡ 0) × (others ≡ 0)
+-- So where it comes to 0, the first is answered by yes, and the others come to 0.
+pub passed : (b : Bool) (k others : ℕ) → 0 < k → ask b k others ≡ 0 → (b ≡ true) × (others ≡ 0)
+passed b k others h e = went-on b k others 0 (λ z. omega arith) e
+
+-- Where two rows of questions, one after the other, come to m, and the first is passed if it comes to m, it is passed, and the second comes to m.
+pub and-then-went-on : (q others m : ℕ) → (q ≡ m → q ≡ 0) → andThen q others ≡ m → (q ≡ 0) × (others ≡ m)
 unfolding andThen
-and-then-passed q others e =
+and-then-went-on q others m h e =
     elim (true-or-false (eqb q 0)) [
       | inl z ↦ (eqb-true q 0 z, sym (cond-true (eqb q 0) others q z) ∙ e)
-      | inr z ↦ absurd (eqb-false q 0 z (sym (cond-false (eqb q 0) others q z) ∙ e))
+      | inr z ↦ absurd (eqb-false q 0 z (h (sym (cond-false (eqb q 0) others q z) ∙ e)))
     ]
+
+-- So where they come to 0, each does; and the other way.
+pub and-then-passed : (q others : ℕ) → andThen q others ≡ 0 → (q ≡ 0) × (others ≡ 0)
+and-then-passed q others e = and-then-went-on q others 0 (λ z. z) e
 
 pub and-then-passes : (q others : ℕ) → q ≡ 0 → others ≡ 0 → andThen q others ≡ 0
 unfolding andThen
@@ -50,6 +58,14 @@ pub ask-each-passes : (n : ℕ) (q : ℕ → ℕ) → ((i : ℕ) → i < n → q
 unfolding askEach fold
 ask-each-passes zero q h = refl
 ask-each-passes (suc n) q h = and-then-passes (askEach n q) (q n) (ask-each-passes n q (λ i l. h i (omega arith))) (h n (omega arith))
+
+-- Rows of which none comes to a number other than 0 do not come to it one after the other.
+pub ask-each-never : (n : ℕ) (q : ℕ → ℕ) (m : ℕ) → m ≢ 0 → ((i : ℕ) → q i ≢ m) → askEach n q ≢ m
+unfolding askEach fold
+ask-each-never zero q m h never e = h (sym e)
+ask-each-never (suc n) q m h never e =
+    let before : askEach n q ≢ m = ask-each-never n q m h never in
+    never n (and-then-went-on (askEach n q) (q n) m (λ z. absurd (before z)) e .1)
 
 module _ {A B : Type 0} where
   pub answer-accepted : (q : ℕ) (value : A) (back : B) → q ≡ 0 → answer q value back ≡ accepted value

@@ -40,7 +40,7 @@ count-apart (suc n) p q h =
     let b = h n in
     omega arith
 
-bit-high : (b : Bool) → bit b ≤ 1
+pub bit-high : (b : Bool) → bit b ≤ 1
 bit-high true = omega arith
 bit-high false = omega arith
 

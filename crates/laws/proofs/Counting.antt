@@ -140,3 +140,27 @@ count-either (suc n) p q h =
     let a = bit-or (p n) (q n) (h n) in
     let b = count-either n p q h in
     omega arith
+
+-- as many of more numbers, or more
+pub count-longer : (i n : ℕ) (p : ℕ → Bool) → i ≤ n → count i p ≤ count n p
+unfolding count
+count-longer i zero p h = let z : i ≡ 0 = omega arith in rw z (omega arith)
+count-longer i (suc n) p h =
+    elim (split i n) [
+      | inl l ↦ let a = count-longer i n p l in omega arith
+      | inr l ↦ let z : i ≡ suc n = omega arith in rw z (omega arith)
+    ]
+
+-- where more than t pass, one does after just t
+pub count-after : (n : ℕ) (p : ℕ → Bool) (t : ℕ) → t < count n p → Some n λ i. (p i ≡ true) × (count i p ≡ t)
+unfolding count
+count-after zero p t h = absurd (omega arith)
+count-after (suc n) p t h =
+    elim (split (count n p) t) [
+      | inl l ↦
+          elim (true-or-false (p n)) [
+            | inl e ↦ let b : bit (p n) ≡ 1 = ap bit e in (n, omega arith, (e, omega arith))
+            | inr e ↦ let b : bit (p n) ≡ 0 = ap bit e in absurd (omega arith)
+          ]
+      | inr l ↦ let s = count-after n p t l in (s .0, (let below : s .0 < n = s .1 in omega arith), s .2)
+    ]

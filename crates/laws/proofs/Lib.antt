@@ -1,6 +1,7 @@
 pub mod Test
 pub mod Below
 pub mod Counting
+pub mod Least
 pub mod Sums
 pub mod Lists
 pub mod Folds

@@ -1,4 +1,4 @@
--- Sums, counts, lists and loops over the numbers below n, in the order in which a loop goes through them.
+-- Sums, counts, lists and loops over the numbers below n, in the order in which a loop goes through them, and the least of them that passes a test.
 use Prim.Native.Nat.{ℕ, zero, suc, _+_}
 use mathlib.Core.List.{List, [], _∷_, _++_}
 use mathlib.Core.Bool.{Bool, cond}
@@ -16,6 +16,11 @@ bit b = cond b 1 0
 unfoldable pub count : ℕ → (ℕ → Bool) → ℕ
 unfolding sum
 count n p = sum n (λ i. bit (p i))
+
+-- the least number below n that passes the test p, or n if there is none
+unfoldable pub least : ℕ → (ℕ → Bool) → ℕ
+least zero p = 0
+least (suc n) p = cond (p 0) 0 (suc (least n (λ i. p (suc i))))
 
 -- the list of f 0, f 1, .., f (n - 1)
 unfoldable pub tabulate : {A : Type 0} → ℕ → (ℕ → A) → List A

@@ -55,7 +55,8 @@ pub fn read_tail(text: &[u8], n: usize, t: usize, crashes: &[u8]) -> Asked
     if line_start(text, n + 3) < text.len() {
         return Asked::Refused(9, n + 4);
     }
-    if t < acceptance::crash_count(crashes) {
+    let counted = acceptance::crash_count(t, crashes);
+    if t < counted.count {
         return Asked::Refused(7, n + 3);
     }
     Asked::Passed

@@ -1,15 +1,17 @@
 -- Which of two deciders goes before, as plain facts: the one with the smaller round, among equal rounds the one that never crashes, and only then the
 -- one with the lower number. Of any two, one goes before the other, and the order is transitive. Assumes nothing.
-use mathlib.Core.Path.{_≡_}
+use mathlib.Core.Path.{_≡_, ap}
 use mathlib.Core.Logic.{_⊎_, inl, inr, _≢_}
-use mathlib.Core.Bool.{Bool, true, _&&_}
+use mathlib.Core.Bool.{Bool, true, not, _&&_}
 use Prim.Native.Nat.{ℕ, _≤_, _<_}
 use native.Mathlib.Omega.{arith}
 use lib.Dec.{ltb, eqb}
-use borrow.Author.Tests.{eqb-true, eqb-false, eq-eqb, ne-eqb, ltb-true, lt-ltb}
-use Rattle.laws.proofs.Test.{true-or-false, and-left, and-right, and-both, or-left, or-right, or-true, cond-true, cond-false}
+use borrow.Author.Tests.{eqb-true, eq-eqb, ne-eqb, ltb-true, lt-ltb}
+use Rattle.laws.specs.Below.{bit}
+use Rattle.laws.proofs.Test.{and-left, and-right, and-both, or-left, or-right, or-true}
 use Rattle.laws.proofs.Counting.{split}
-use Rattle.run.specs.Report.{ahead, everCrashes, before}
+use Rattle.schedule.specs.Schedule.{everCrashes}
+use Rattle.run.specs.Report.{ahead, before}
 
 -- of two numbers and the test that tells where they are equal
 module _ (x y : ℕ) (next : Bool) where
@@ -30,25 +32,16 @@ module _ (x y : ℕ) (next : Bool) where
       ]
 
 module _ (c : ℕ) where
-  pub never-crashes : c ≡ 0 → everCrashes c ≡ 0
-  unfolding everCrashes
-  never-crashes e = cond-true _ _ _ (eq-eqb c 0 e)
+  pub never-crashes : c ≡ 0 → bit (everCrashes c) ≡ 0
+  never-crashes e = ap (λ (b : Bool). bit (not b)) (eq-eqb c 0 e)
 
-  pub crashes-once : c ≢ 0 → everCrashes c ≡ 1
-  unfolding everCrashes
-  crashes-once n = cond-false _ _ _ (ne-eqb c 0 n)
-
-  pub crashes-high : everCrashes c ≤ 1
-  crashes-high =
-      elim (true-or-false (eqb c 0)) [
-        | inl e ↦ let never = never-crashes (eqb-true c 0 e) in omega arith
-        | inr e ↦ let once = crashes-once (eqb-false c 0 e) in omega arith
-      ]
+  pub crashes-once : c ≢ 0 → bit (everCrashes c) ≡ 1
+  crashes-once n = ap (λ (b : Bool). bit (not b)) (ne-eqb c 0 n)
 
 module _ (C R : ℕ → ℕ) where
   -- 1 if process i crashes, 0 if it never does
   abbrev E : ℕ → ℕ
-  E i = everCrashes (C i)
+  E i = bit (everCrashes (C i))
 
   -- the order of two deciders, in plain facts
   pub data Before (i k : ℕ) : Type 0 where

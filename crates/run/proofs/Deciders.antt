@@ -12,9 +12,10 @@ use lib.Dec.{leb, eqb}
 use borrow.Author.Tests.{eqb-true, eqb-false, eq-eqb, ne-eqb, leb-false}
 use Rattle.laws.specs.Below.{fold}
 use Rattle.laws.proofs.Test.{true-or-false, and-both, and-no-left, and-no-right, or-true, or-false, cond-true, cond-false}
+use Rattle.laws.proofs.Below.{bit-high}
 use Rattle.laws.proofs.Counting.{Some, below-or-top, count-short}
 use Rattle.laws.proofs.Folds.{largest-high, largest-is}
-use Rattle.schedule.specs.Schedule.{Schedule, crashOf}
+use Rattle.schedule.specs.Schedule.{Schedule, crashOf, everCrashes}
 use Rattle.schedule.specs.Questions.{Rules}
 use Rattle.run.specs.Protocol.{fcwfa}
 use Rattle.run.specs.Run.{final}
@@ -24,7 +25,7 @@ use Rattle.run.proofs.States.{last-round}
 use Rattle.run.proofs.CrashRounds.{crashRound}
 use Rattle.run.proofs.FcwfaRun.{runWorld, laws}
 use Rattle.run.proofs.Demand.{end-is}
-use Rattle.run.proofs.Before.{never-crashes, crashes-once, crashes-high, Before, sooner, survivor, lower, before-is, is-before, before-trans, before-or}
+use Rattle.run.proofs.Before.{never-crashes, crashes-once, Before, sooner, survivor, lower, before-is, is-before, before-trans, before-or}
 
 module _ (C R : ℕ → ℕ) where
   -- what the loop has found among the processes below k
@@ -132,7 +133,7 @@ module _ (s : Schedule) where
             ];
         lowest-of-all = λ k l e n.
             let once = crashes-once (crashOf s i) (λ z. omega arith) in
-            let high = crashes-high (crashOf s k) in
+            let high = bit-high (everCrashes (crashOf s k)) in
             elim (others k l (λ u. let d = decides in omega arith)) [
               | inl q ↦ omega arith
               | inr (sooner h) ↦ absurd (omega arith)

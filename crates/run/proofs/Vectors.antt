@@ -12,12 +12,12 @@ use Rattle.member.specs.Questions.{sayQuestion, rowQuestion, hearQuestion}
 use Rattle.sets.specs.Sets.{names}
 use Rattle.schedule.specs.Schedule.{crashedBy}
 use Rattle.run.specs.Run.{completesRound, isHeard, delivered, codeHeard, rowOf, stateAfter, nextState, played, opened, statesAfter, final}
-use Rattle.run.specs.Report.{sentBy, messages, ahead, everCrashes, before, firstWith, firstOf, lastOf}
+use Rattle.run.specs.Report.{sentBy, messages, ahead, before, firstWith, firstOf, lastOf}
 use Rattle.run.specs.Demand.{roundB, mostMessages}
 use Rattle.run.specs.Vectors.{RunVectors}
 
 pub run-vectors : RunVectors
-unfolding within sum count fold ask placeAfter openQuestion inLimits placed inRange stopped says codes told toldEarly toldBoth firstEstimate becomes sayQuestion rowQuestion hearQuestion crashedBy ahead everCrashes before firstWith firstOf lastOf roundB mostMessages ones onesIn tabulate zerosOnly quiet enough ruleMet lowered toldValue byRule names completesRound isHeard delivered codeHeard rowOf stateAfter nextState played opened statesAfter final sentBy messages
+unfolding within sum count fold ask placeAfter openQuestion inLimits placed inRange stopped says codes told toldEarly toldBoth firstEstimate becomes sayQuestion rowQuestion hearQuestion crashedBy ahead before firstWith firstOf lastOf roundB mostMessages ones onesIn tabulate zerosOnly quiet enough ruleMet lowered toldValue byRule names completesRound isHeard delivered codeHeard rowOf stateAfter nextState played opened statesAfter final sentBy messages
 run-vectors =
     record {
       round-b-of-3 = refl;

@@ -5,10 +5,10 @@ use mathlib.Core.Bool.{Bool, cond, _&&_, _||_, not}
 use lib.Dec.{ltb, eqb}
 use lib.Count.{ones}
 use lib.ListN.{getD}
-use Rattle.laws.specs.Below.{sum, tabulate, fold}
+use Rattle.laws.specs.Below.{sum, bit, tabulate, fold}
 use Rattle.member.specs.declared.Member.{Member}
 use Rattle.member.specs.Saying.{nothing}
-use Rattle.schedule.specs.Schedule.{Schedule, crashOf, crashCount}
+use Rattle.schedule.specs.Schedule.{Schedule, crashOf, everCrashes, crashCount}
 use Rattle.run.specs.Protocol.{Protocol}
 use Rattle.run.specs.Run.{completesRound, stateAt, codeSaid, statesAfter, final}
 
@@ -35,16 +35,12 @@ sentBy n r c reach code =
 unfoldable pub ahead : ℕ → ℕ → Bool → Bool
 ahead x y next = ltb x y || (eqb x y && next)
 
--- 0 for "a process whose crash round is 0", 1 for "one that crashes", in whatever round
-unfoldable pub everCrashes : ℕ → ℕ
-everCrashes c = cond (eqb c 0) 0 1
-
 -- First, from the crash rounds of the processes at places 0, 1, .., 0 for never, and from their decided rounds, 0 for none.
 module _ (crash round : ℕ → ℕ) where
   -- Whether i goes before k, two processes that decided: "the one with the smallest decided round", and "Among equal smallest rounds a process whose
-  -- crash round is 0 now goes before one that crashes, and only then the lower number."
+  -- crash round is 0 now goes before one that crashes", 0 before 1, "and only then the lower number."
   unfoldable pub before : ℕ → ℕ → Bool
-  before i k = ahead (round i) (round k) (ahead (everCrashes (crash i)) (everCrashes (crash k)) (ltb i k))
+  before i k = ahead (round i) (round k) (ahead (bit (everCrashes (crash i))) (bit (everCrashes (crash k))) (ltb i k))
 
   -- the number of the first decider among the processes looked at, 0 for none: `found` before process i is looked at, and with it
   unfoldable pub firstWith : ℕ → ℕ → ℕ

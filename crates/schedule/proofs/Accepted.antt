@@ -1,15 +1,18 @@
 -- The questions of a schedule come to 0 exactly where its n is from 4 to the limit, its tables and the answer tables are n long, and it keeps
 -- the rules; those of one process come to 0 exactly where that process keeps its rules. Assumes nothing.
-use mathlib.Core.Path.{_≡_, refl}
-use mathlib.Core.Bool.{Bool, true, false, not, _||_, false≢true}
+use mathlib.Core.Path.{_≡_, refl, sym, _∙_}
+use mathlib.Core.Logic.{inl, inr, _≢_}
+use mathlib.Core.Bool.{Bool, true, false, not, _&&_, _||_, false≢true}
 use Prim.Native.Nat.{ℕ, _+_, _-_, _^_, _<_}
 use native.Mathlib.Omega.{arith}
 use borrow.Author.Tests.{eqb-true, eq-eqb, ltb-true, lt-ltb, leb-true, le-leb, not-true}
 use lib.ListN.{length}
-use lib.Dec.{ltb, eqb}
-use Rattle.laws.specs.Answer.{ask, andThen}
-use Rattle.laws.proofs.Test.{and-left, and-right, within-low, within-high, within-is}
-use Rattle.laws.proofs.Answer.{passed, and-then-passed, ask-each-passed, ask-each-passes}
+use lib.Dec.{ltb, leb, eqb}
+use Rattle.laws.specs.Test.{within}
+use Rattle.laws.specs.Answer.{ask, andThen, askEach}
+use Rattle.laws.proofs.Test.{cond-true, and-left, and-right, within-low, within-high, within-is}
+use Rattle.laws.proofs.Counting.{split}
+use Rattle.laws.proofs.Answer.{went-on, passed, and-then-went-on, ask-each-passed, ask-each-passes, ask-each-never}
 use Rattle.sets.specs.Sets.{names}
 use Rattle.schedule.specs.Schedule.{Schedule, voteOf, crashOf, reachOf, crashCount}
 use Rattle.schedule.specs.Questions.{tablesOf, answersOf, tablesLong, reachRight, entryQuestion, processQuestion, question, ProcessRules, Accepted}
@@ -86,32 +89,62 @@ module _ (s : Schedule) where
   pub table-lengths : tablesLong s ≡ true → (length (s .votes) ≡ s .n) × (length (s .crashes) ≡ s .n) × (length (s .reaches) ≡ s .n)
   table-lengths = all-of-size (s .n) _ _ _
 
+  -- the questions of a process come to no 7
+  process-never-7 : (i : ℕ) → processQuestion s i ≢ 7
+  unfolding entryQuestion
+  process-never-7 i e =
+      let p4 = went-on _ 4 _ 7 (λ z. omega arith) e in
+      let p5 = went-on _ 5 _ 7 (λ z. omega arith) (p4 .1) in
+      let p6 = went-on _ 6 _ 7 (λ z. omega arith) (p5 .1) in
+      absurd (let z = p6 .1 in omega arith)
+
   module _ (limit : ℕ) (answers : Bool) where
+    -- Where the questions come to m, which is not the number of one before 7, every one of these is answered by yes.
+    module _ (m : ℕ) (no-other : (k : ℕ) → 0 < k → k < 7 → k ≢ m) (process-passed : askEach (s .n) (processQuestion s) ≡ m → askEach (s .n) (processQuestion s) ≡ 0)
+        (e : question s limit answers ≡ m) where
+      up-to-7 : (within 4 (s .n) limit ≡ true) × (within 3 (s .t) (s .n - 1) ≡ true) × (tablesLong s && answers ≡ true) × (askEach (s .n) (processQuestion s) ≡ 0) × (ask (leb (crashCount s) (s .t)) 7 0 ≡ m)
+      unfolding question
+      up-to-7 =
+          let p1 = went-on _ 1 _ m (no-other 1 (omega arith) (omega arith)) e in
+          let p2 = went-on _ 2 _ m (no-other 2 (omega arith) (omega arith)) (p1 .1) in
+          let p3 = went-on _ 3 _ m (no-other 3 (omega arith) (omega arith)) (p2 .1) in
+          let each = and-then-went-on _ _ m process-passed (p3 .1) in
+          (p1 .0, p2 .0, p3 .0, each .0, each .1)
+
     pub question-accepted : question s limit answers ≡ 0 → Accepted s limit answers
-    unfolding question
     question-accepted e =
-        let p1 = passed _ 1 _ (omega arith) e in
-        let p2 = passed _ 2 _ (omega arith) (p1 .1) in
-        let p3 = passed _ 3 _ (omega arith) (p2 .1) in
-        let each = and-then-passed _ _ (p3 .1) in
-        let p7 = passed _ 7 _ (omega arith) (each .1) in
-        let n-low = within-low _ _ _ (p1 .0) in
-        let t-high = within-high _ _ _ (p2 .0) in
-        let long = table-lengths (and-left _ answers (p3 .0)) in
+        let p = up-to-7 0 (λ k low high z. omega arith) (λ z. z) e in
+        let p7 = passed _ 7 _ (omega arith) (p .4) in
+        let n-low = within-low _ _ _ (p .0) in
+        let t-high = within-high _ _ _ (p .1) in
+        let long = table-lengths (and-left _ answers (p .2)) in
         record {
           n-low = n-low;
-          n-high = within-high _ _ _ (p1 .0);
+          n-high = within-high _ _ _ (p .0);
           votes-long = long .0;
           crashes-long = long .1;
           reaches-long = long .2;
-          answers-long = and-right (tablesLong s) _ (p3 .0);
+          answers-long = and-right (tablesLong s) _ (p .2);
           rules = record {
-            t-low = within-low _ _ _ (p2 .0);
+            t-low = within-low _ _ _ (p .1);
             t-high = omega arith;
-            process = λ i l. process-question-rules i (ask-each-passed _ _ (each .0) i l);
+            process = λ i l. process-question-rules i (ask-each-passed _ _ (p .3) i l);
             few = leb-true _ _ (p7 .0);
           };
         }
+
+    -- the table of crash rounds is n long, and more than t processes crash
+    pub question-7 : question s limit answers ≡ 7 → (length (s .crashes) ≡ s .n) × (s .t < crashCount s)
+    unfolding ask
+    question-7 e =
+        let never = ask-each-never (s .n) (processQuestion s) 7 (λ z. omega arith) process-never-7 in
+        let p = up-to-7 7 (λ k low high z. omega arith) (λ z. absurd (never z)) e in
+        let many : s .t < crashCount s =
+        elim (split (crashCount s) (s .t)) [
+          | inl few ↦ absurd (let z = sym (cond-true _ 0 7 (le-leb (crashCount s) (s .t) few)) ∙ p .4 in omega arith)
+          | inr l ↦ l
+        ] in
+        (table-lengths (and-left _ answers (p .2)) .1, many)
 
     pub accepted-question : Accepted s limit answers → question s limit answers ≡ 0
     unfolding question ask andThen tablesOf

@@ -5,16 +5,15 @@ use mathlib.Core.Bool.{not}
 use Prim.Native.Nat.{ℕ, _+_, _<_}
 use native.Mathlib.Nat.{eq-zero-or-pos}
 use native.Mathlib.Omega.{arith}
-use lib.Dec.{eqb}
 use borrow.Author.Tests.{eq-eqb, ne-eqb}
 use Rattle.laws.specs.Test.{within}
 use Rattle.laws.proofs.Test.{within-is, within-not-low}
 use Rattle.laws.proofs.Counting.{count-same}
-use Rattle.schedule.specs.Schedule.{Schedule, crashOf, crashesIn, crashCount, crashedBy}
+use Rattle.schedule.specs.Schedule.{Schedule, crashOf, everCrashes, crashesIn, crashCount, crashedBy}
 use Rattle.schedule.specs.Questions.{Rules}
 
 module _ (s : Schedule) (ok : Rules s) where
-  counted-once : (i : ℕ) → i < s .n → within 1 (crashOf s i) (s .t + 1) ≡ not (eqb (crashOf s i) 0)
+  counted-once : (i : ℕ) → i < s .n → within 1 (crashOf s i) (s .t + 1) ≡ everCrashes (crashOf s i)
   counted-once i l =
       elim (eq-zero-or-pos (crashOf s i)) [
         | inl z ↦ within-not-low 1 (crashOf s i) (s .t + 1) (omega arith) ∙ sym (ap not (eq-eqb (crashOf s i) 0 z))
@@ -23,4 +22,4 @@ module _ (s : Schedule) (ok : Rules s) where
 
   pub all-crashes : crashedBy s (s .t + 1) ≡ crashCount s
   unfolding crashedBy crashesIn
-  all-crashes = count-same (s .n) (λ i. within 1 (crashOf s i) (s .t + 1)) (λ i. not (eqb (crashOf s i) 0)) counted-once
+  all-crashes = count-same (s .n) (λ i. within 1 (crashOf s i) (s .t + 1)) (λ i. everCrashes (crashOf s i)) counted-once

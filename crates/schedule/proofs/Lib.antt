@@ -1,4 +1,5 @@
 pub mod Accepted
 pub mod Crashes
+pub mod Counting
 pub mod Facts
 pub mod Vectors

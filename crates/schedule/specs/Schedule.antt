@@ -2,7 +2,7 @@
 -- The process at place i of the tables, counted from 0, has the number i + 1. Definitions and laws speak of places.
 use Prim.Native.Nat.{ℕ}
 use mathlib.Core.List.{List}
-use mathlib.Core.Bool.{not}
+use mathlib.Core.Bool.{Bool, not}
 use lib.ListN.{getD}
 use lib.Dec.{eqb}
 use Rattle.laws.specs.Test.{within}
@@ -20,9 +20,13 @@ pub record Schedule : Type 0 where
 abbrev pub scheduleOf : ℕ → ℕ → List ℕ → List ℕ → List ℕ → Schedule
 scheduleOf n t votes crashes reaches = record { n = n; t = t; votes = votes; crashes = crashes; reaches = reaches }
 
+-- whether a process with crash round c crashes, in whatever round: its "crash round isn't 0"
+abbrev pub everCrashes : ℕ → Bool
+everCrashes c = not (eqb c 0)
+
 -- "f is the number of processes whose crash round isn't 0.": of the first n of a table of crash rounds
 unfoldable pub crashesIn : ℕ → List ℕ → ℕ
-crashesIn n crashes = count n (λ i. not (eqb (getD crashes i 0) 0))
+crashesIn n crashes = count n (λ i. everCrashes (getD crashes i 0))
 
 module _ (s : Schedule) where
   -- the vote, the crash round and the reach of the process at place i

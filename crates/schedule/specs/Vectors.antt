@@ -1,5 +1,6 @@
--- Schedules in tables with the number that their questions come to, written from document 01 by hand, and the statement that covers them. Proved in
--- proofs/Vectors.antt: `schedule-vectors : ScheduleVectors`, by computing what the definitions give.
+-- Schedules in tables with the number that their questions come to, written from document 01 by hand, and tables of crash rounds with their count,
+-- written from document 02; and the statements that cover them. Proved in proofs/Vectors.antt by computing what the definitions give:
+-- `schedule-vectors : ScheduleVectors`, `count-vectors : CountVectors`.
 use Prim.Native.Nat.{ℕ}
 use mathlib.Core.Path.{_≡_}
 use mathlib.Core.List.{List, [], _∷_, map}
@@ -8,6 +9,7 @@ use Rattle.sets.specs.Largest.{largest}
 use Rattle.schedule.specs.Four.{four, allOne, allZero}
 use Rattle.schedule.specs.Schedule.{Schedule, scheduleOf}
 use Rattle.schedule.specs.Questions.{answersOf, question}
+use Rattle.schedule.specs.Counting.{lookedAt, crashesCounted}
 
 -- a schedule, the lengths of the answer tables of the call, and the number; 0 for one that passes
 pub record Asked : Type 0 where
@@ -76,3 +78,39 @@ vectors =
 -- the questions of each come to its number
 abbrev pub ScheduleVectors : Type 0
 ScheduleVectors = map (λ a. question (a .schedule) largest (answersOf (a .schedule .n) (a .decisions) (a .rounds))) vectors ≡ map (λ a. a .number) vectors
+
+-- t, a table of crash rounds, and what its count answers: the count, and the number of the last process looked at
+pub record Count : Type 0 where
+  pub t : ℕ
+  pub crashes : List ℕ
+  pub count : ℕ
+  pub last : ℕ
+
+abbrev pub counts : ℕ → List ℕ → ℕ → ℕ → Count
+counts t crashes count last = record { t = t; crashes = crashes; count = count; last = last }
+
+abbrev pub countVectors : List Count
+countVectors =
+    -- an empty table has looked at nobody
+    counts 3 [] 0 0 ∷
+    counts 0 [] 0 0 ∷
+    -- "n where there is no such crash": no crash, t crashes, and t crashes with the last at process n
+    counts 3 allZero 0 4 ∷
+    counts 3 (four 1 2 3 0) 3 4 ∷
+    counts 3 (four 0 2 3 4) 3 4 ∷
+    -- "it shall end at the crash that makes t + 1 of them .. that crash's process": it is process n, there are more after it, it is process 1, and
+    -- processes that do not crash are passed over; a crash round of 255 is a crash like any other
+    counts 3 (four 1 2 3 4) 4 4 ∷
+    counts 1 (four 1 2 3 4) 2 2 ∷
+    counts 0 (four 255 0 0 0) 1 1 ∷
+    counts 0 (four 0 0 3 0) 1 3 ∷
+    counts 1 (four 0 2 0 255) 2 4 ∷
+    counts 1 five 2 2 ∷
+    -- t + 1 is 2^64
+    counts 18446744073709551615 (four 1 0 3 4) 3 4 ∷
+    []
+
+-- the count of each, and the last process that it looks at
+pub record CountVectors : Type 0 where
+  pub counted : map (λ c. crashesCounted (c .t) (c .crashes)) countVectors ≡ map (λ c. c .count) countVectors
+  pub last-looked-at : map (λ c. lookedAt (c .t) (c .crashes)) countVectors ≡ map (λ c. c .last) countVectors

@@ -13,13 +13,13 @@ use Rattle.member.specs.Hearing.{codes, told, zerosOnly, quiet, enough, ruleMet
 use Rattle.schedule.specs.Schedule.{crashesIn}
 use Rattle.schedule.specs.Questions.{tablesOf, answersOf, reachRight, entryQuestion, question}
 use Rattle.run.specs.Run.{completesRound, isHeard, delivered, codeHeard, rowOf, stateAfter, nextState, played, opened, statesAfter, final}
-use Rattle.run.specs.Report.{sentBy, messages, decisionOf, ahead, everCrashes, before, firstWith, firstOf, lastOf}
+use Rattle.run.specs.Report.{sentBy, messages, decisionOf, ahead, before, firstWith, firstOf, lastOf}
 use Rattle.simulator.specs.declared.Counts.{Counts}
 use Rattle.simulator.specs.Answers.{simulateAnswer}
 use Rattle.simulator.specs.Vectors.{SimulatorVectors, SimulatedCases}
 
 pub simulator-vectors : SimulatorVectors
-unfolding ones onesIn within sum count tabulate fold ask andThen askEach answer placeAfter names stopped says codes told zerosOnly quiet enough ruleMet firstEstimate lowered toldValue byRule becomes crashesIn tablesOf answersOf reachRight entryQuestion question completesRound isHeard delivered codeHeard rowOf stateAfter nextState played opened statesAfter final sentBy messages decisionOf ahead everCrashes before firstWith firstOf lastOf simulateAnswer
+unfolding ones onesIn within sum count tabulate fold ask andThen askEach answer placeAfter names stopped says codes told zerosOnly quiet enough ruleMet firstEstimate lowered toldValue byRule becomes crashesIn tablesOf answersOf reachRight entryQuestion question completesRound isHeard delivered codeHeard rowOf stateAfter nextState played opened statesAfter final sentBy messages decisionOf ahead before firstWith firstOf lastOf simulateAnswer
 simulator-vectors = record { answered = refl; decided = refl; timed = refl }
 
 pub simulated-cases : (counts : Counts) (decisions rounds : List ℕ) → SimulatedCases counts decisions rounds

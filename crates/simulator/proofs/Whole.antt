@@ -13,9 +13,11 @@ use Rattle.laws.proofs.Lists.{length-tabulate, getD-tabulate, tabulate-same}
 use Rattle.laws.proofs.Answer.{answer-accepted, answer-refused, valueOr, not-accepted, place-given, place-kept}
 use Rattle.member.specs.declared.Member.{Member}
 use Rattle.sets.specs.Largest.{largest}
-use Rattle.schedule.specs.Schedule.{Schedule, crashOf, crashesIn}
+use Rattle.schedule.specs.Schedule.{Schedule, crashOf}
 use Rattle.schedule.specs.Questions.{answersOf, question, Accepted}
+use Rattle.schedule.specs.Counting.{crashesCounted}
 use Rattle.schedule.proofs.Accepted.{both-long, question-accepted}
+use Rattle.schedule.proofs.Counting.{f-counted}
 use Rattle.run.specs.Protocol.{Protocol, fcwfa, nobody}
 use Rattle.run.specs.Run.{stateAt, final}
 use Rattle.run.specs.Report.{roundOf, decisionOf, firstOf, lastOf, messages, report}
@@ -111,7 +113,7 @@ module _ (P : Protocol) (s : Schedule) (decisions rounds : List ℕ) {ran : Ran}
         (d : decisions-now ≡ tabulate (length decisions) (decisionOf (ran .members)))
         (r : rounds-now ≡ tabulate (length rounds) (roundOf (ran .members)))
         (found : c ≡ record {
-          f = crashesIn (length (s .crashes)) (s .crashes);
+          f = crashesCounted (s .t) (s .crashes);
           first = firstOf (crashOf s) (λ i. getD rounds-now i 0) (length rounds-now);
           last = lastOf (λ i. getD rounds-now i 0) (length rounds-now);
           messages = ran .messages;
@@ -126,7 +128,7 @@ module _ (P : Protocol) (s : Schedule) (decisions rounds : List ℕ) {ran : Ran}
       counts-are =
           found
           ∙ (λ i. record {
-            f = crashesIn (accepts .crashes-long i) (s .crashes);
+            f = f-counted s largest _ accepts i;
             first = firstOf (crashOf s) (rounds-at i) (rounds-long i);
             last = lastOf (rounds-at i) (rounds-long i);
             messages = messages-are i;

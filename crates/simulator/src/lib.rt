@@ -54,5 +54,5 @@ pub fn simulate(
     }
     let members = ran.members;
     tables::fill(members, decisions, rounds);
-    Simulated::Completed(tables::counts_of(crashes, &rounds[..], ran.messages))
+    Simulated::Completed(tables::counts_of(t, crashes, &rounds[..], ran.messages))
 }

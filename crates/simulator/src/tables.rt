@@ -6,7 +6,7 @@ ghost use lib.Dec.{eqb};
 ghost use lib.ListN.{length, getD};
 ghost use Rattle.laws.specs.Below.{tabulate};
 ghost use Rattle.sets.specs.Largest.{largest};
-ghost use Rattle.schedule.specs.Schedule.{crashesIn};
+ghost use Rattle.schedule.specs.Counting.{crashesCounted};
 ghost use Rattle.run.specs.Report.{firstOf, lastOf, roundOf, decisionOf};
 use crate::Counts;
 use member::Member;
@@ -34,17 +34,18 @@ pub fn fill(members: [Member; WIDTH], decisions: &mut [u8], rounds: &mut [u8])
     }
 }
 
-// The counts, from the crash rounds, the decided rounds and the messages of the run.
-pub fn counts_of(crashes: &[u8], rounds: &[u8], messages: usize) -> Counts
+// The counts, from t, the crash rounds, the decided rounds and the messages of the run.
+pub fn counts_of(t: usize, crashes: &[u8], rounds: &[u8], messages: usize) -> Counts
     ensures counted { λ r. ⌜ r ≡ record {
-      f = crashesIn (length (now (crashes .entry))) (now (crashes .entry));
+      f = crashesCounted t (now (crashes .entry));
       first = firstOf (λ i. getD (now (crashes .entry)) i 0) (λ i. getD (now (rounds .entry)) i 0) (length (now (rounds .entry)));
       last = lastOf (λ i. getD (now (rounds .entry)) i 0) (length (now (rounds .entry)));
       messages = messages;
     } ⌝ }
 {
+    let counted = acceptance::crash_count(t, crashes);
     Counts {
-        f: acceptance::crash_count(crashes),
+        f: counted.count,
         first: deciders::first_decider(crashes, rounds),
         last: deciders::last_round(rounds) as usize,
         messages: messages,

@@ -15,7 +15,7 @@ use Rattle.sets.specs.Sets.{names}
 use Rattle.schedule.specs.Schedule.{crashesIn}
 use Rattle.schedule.specs.Questions.{reachRight, entryQuestion}
 use Rattle.run.specs.Run.{completesRound, isHeard, delivered, codeHeard, rowOf, stateAfter, nextState, played, opened, statesAfter, final}
-use Rattle.run.specs.Report.{sentBy, messages, decisionOf, ahead, everCrashes, before, firstWith, firstOf, lastOf}
+use Rattle.run.specs.Report.{sentBy, messages, decisionOf, ahead, before, firstWith, firstOf, lastOf}
 use Rattle.text.specs.Forms.{sizesAt, entryAt}
 use Rattle.text.specs.Written.{eachLine}
 use Rattle.text.specs.Reading.{onLine, scheduleIn, entryQuestions, headQuestions, tailQuestions, restQuestions, textQuestions, textAnswer}
@@ -23,7 +23,7 @@ use Rattle.text.specs.Output.{decisionLetter, countsLine, decisionLine, 
 use Rattle.text.specs.Vectors.{TextVectors, LengthVectors}
 
 pub text-vectors : TextVectors
-unfolding ones onesIn within sum count tabulate fold ask answer andNext nextEach lineLength afterLine afterLines lineOf thenRead isDigit decimalIn decimal startsWith hasByte ended numberField digitField reachField stopped says codes told zerosOnly quiet enough ruleMet firstEstimate lowered toldValue byRule becomes names crashesIn reachRight entryQuestion completesRound isHeard delivered codeHeard rowOf stateAfter nextState played opened statesAfter final sentBy messages decisionOf ahead everCrashes before firstWith firstOf lastOf sizesAt entryAt field eachLine onLine scheduleIn entryQuestions headQuestions tailQuestions restQuestions textQuestions textAnswer decisionLetter countsLine decisionLine decisionLines reportText refusalText outputOf
+unfolding ones onesIn within sum count tabulate fold ask answer andNext nextEach lineLength afterLine afterLines lineOf thenRead isDigit decimalIn decimal startsWith hasByte ended numberField digitField reachField stopped says codes told zerosOnly quiet enough ruleMet firstEstimate lowered toldValue byRule becomes names crashesIn reachRight entryQuestion completesRound isHeard delivered codeHeard rowOf stateAfter nextState played opened statesAfter final sentBy messages decisionOf ahead before firstWith firstOf lastOf sizesAt entryAt field eachLine onLine scheduleIn entryQuestions headQuestions tailQuestions restQuestions textQuestions textAnswer decisionLetter countsLine decisionLine decisionLines reportText refusalText outputOf
 text-vectors = refl
 
 pub length-vectors : LengthVectors

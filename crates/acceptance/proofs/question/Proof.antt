@@ -13,6 +13,7 @@ use Rattle.sets.specs.Largest.{largest}
 use Rattle.schedule.specs.Schedule.{Schedule, scheduleOf, crashesIn}
 use Rattle.schedule.specs.Questions.{tablesLong, answersOf, question}
 use Rattle.schedule.proofs.Accepted.{table-lengths}
+use Rattle.schedule.proofs.Counting.{count-facts}
 use Rattle.acceptance.proofs.InOrder.{number-of-sizes, number-3, number-of-process, past-processes}
 use Rattle.acceptance.proofs.question.Statement.{statement}
 use Rattle.acceptance.proofs.question.Tie as tie
@@ -78,26 +79,33 @@ returns-4 c =
 crash-count-requires : tie.Need-crash-count-requires
 crash-count-requires c κs = search needs
 
--- past the first six questions; the table of crash rounds is n long, so its count is f
-up-to-7 : (c : tie.After-crash-count) → let c1 = c .before .before .before .before .before .before .before in question (given c1) largest (answers c1) ≡ ask (leb (c .crash-count .result) (given c1 .t)) 7 0
+-- past the first six questions; the table of crash rounds is n long, so the count answers question 7
+up-to-7 : (c : tie.After-crash-count) → let c1 = c .before .before .before .before .before .before .before in question (given c1) largest (answers c1) ≡ ask (leb (c .crash-count .result .count) (given c1 .t)) 7 0
 up-to-7 c =
     let c3 = c .before .before .before in
     let c1 = c3 .before .before .before .before in
-    let f = c .crash-count .ensures ∙ ap (λ (n : ℕ). crashesIn n (given c1 .crashes)) (lengths (c3 .before .before) .1) in
+    let t = given c1 .t in
+    let crashes = given c1 .crashes in
+    let few =
+    ap (λ (n : ℕ). leb (crashesIn n crashes) t) (sym (lengths (c3 .before .before) .1))
+    ∙ count-facts t crashes .asks-7
+    ∙ ap (λ (k : ℕ). leb k t) (sym (c .crash-count .ensures .0)) in
     past-processes (given c1) _ _ _ (c1 .before .size-question .ensures) (c1 .if1 .left) (all-long c3) _ (c .before .before .processes-question .ensures) (c .before .if4 .left)
-    ∙ ap (λ (f : ℕ). ask (leb f (given c1 .t)) 7 0) (sym f)
+    ∙ ap (λ (b : Bool). ask b 7 0) few
 
 returns-5 : tie.Need-returns-5
 unfolding ask
 returns-5 c =
-    let t = c .before .before .before .before .before .before .before .before .before .before .before .before .before .args .t in
-    rw (up-to-7 (c .before), lt-leb (c .before .crash-count .result) t (omega arith))
+    let counted = c .before .before in
+    let t = given (counted .before .before .before .before .before .before .before) .t in
+    rw (up-to-7 counted, lt-leb (counted .crash-count .result .count) t (omega arith))
 
 returns-6 : tie.Need-returns-6
 unfolding ask
 returns-6 c =
-    let t = c .before .before .before .before .before .before .before .before .before .before .before .before .before .args .t in
-    rw (up-to-7 (c .before), le-leb (c .before .crash-count .result) t (omega arith))
+    let counted = c .before .before in
+    let t = given (counted .before .before .before .before .before .before .before) .t in
+    rw (up-to-7 counted, le-leb (counted .crash-count .result .count) t (omega arith))
 
 pub question-spec : {M : Type 1} → statement M
 question-spec =

@@ -1,0 +1,27 @@
+-- The least number below n that passes a test, or n: what holds of it, and that nothing else does. Assumes nothing.
+use mathlib.Core.Path.{_≡_, refl, sym, ap, _∙_}
+use mathlib.Core.Logic.{inl, inr}
+use mathlib.Core.Bool.{Bool, true, false, true≢false}
+use Prim.Native.Nat.{ℕ, zero, suc, _+_, _≤_, _<_, zero-le}
+use native.Mathlib.Nat.{not-suc-le-zero}
+use native.Mathlib.Omega.{arith}
+use Rattle.laws.specs.Below.{least}
+use Rattle.laws.proofs.Test.{true-or-false, cond-true, cond-false}
+use Rattle.laws.proofs.Counting.{split}
+
+least-here : (n : ℕ) (p : ℕ → Bool) → p 0 ≡ true → least (suc n) p ≡ 0
+unfolding least
+least-here n p e = cond-true (p 0) 0 _ e
+
+least-later : (n : ℕ) (p : ℕ → Bool) → p 0 ≡ false → least (suc n) p ≡ suc (least n (λ i. p (suc i)))
+unfolding least
+least-later n p e = cond-false (p 0) 0 _ e
+
+-- a number up to n that passes the test if it is below n, and before which none does, is the least
+pub least-is : (n : ℕ) (p : ℕ → Bool) (k : ℕ) → k ≤ n → ((i : ℕ) → i < k → p i ≡ false) → (k < n → p k ≡ true) → k ≡ least n p
+unfolding least
+least-is zero p k h before at = omega arith
+least-is (suc n) p zero h before at = sym (least-here n p (at (omega arith)))
+least-is (suc n) p (suc k) h before at =
+    ap suc (least-is n (λ i. p (suc i)) k (omega arith) (λ i l. before (suc i) (omega arith)) (λ l. at (omega arith)))
+    ∙ sym (least-later n p (before 0 (omega arith)))
