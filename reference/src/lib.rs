@@ -1,5 +1,5 @@
 //! The commit bench and its members, written a second time from document 01, and from document 02 as far as its
-//! requests have landed: so far K1 and K3. Where document 02 changes document 01, document 02 stands.
+//! requests have landed: so far K1, K3 and K4. Where document 02 changes document 01, document 02 stands.
 //!
 //! The modules follow document 01 in its order. Processes and rounds are numbered from 1, as there; the entry of
 //! process i in a table stands at place i - 1.
@@ -7,6 +7,7 @@
 //! The largest cluster, the type of a set of processes and the longest text stand here and nowhere else; what follows
 //! from them is written in terms of them.
 
+pub mod crashes;
 pub mod demand3;
 pub mod first;
 pub mod member;

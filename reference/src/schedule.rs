@@ -1,6 +1,8 @@
 //! A schedule in tables: who votes what, who crashes when, and whom the last message reaches (document 01,
-//! "Cabinets, rounds, crashes", "Who hears whom" and the schedule part of "Questions before work").
+//! "Cabinets, rounds, crashes", "Who hears whom" and the schedule part of "Questions before work"; document 02, K4: f
+//! and question 7 go by the count that ends sooner).
 
+use crate::crashes::count_crashes;
 use crate::questions::{ask, ask_sizes, ask_vote, Refusal};
 use crate::Set;
 
@@ -56,9 +58,10 @@ impl Schedule {
         self.reaches[i - 1] & bit(j) != 0
     }
 
-    /// f, the number of processes whose crash round isn't 0.
+    /// f, the number of processes whose crash round isn't 0, if it is at most t; otherwise t + 1, where the count ends.
+    /// Document 02, K4: "For accepted schedules f is still the full count."
     pub fn f(&self) -> usize {
-        self.crashes.iter().filter(|crash| **crash != 0).count()
+        count_crashes(self.t, &self.crashes).count
     }
 
     /// Whether any process, crashed or not, votes 0.
@@ -89,7 +92,7 @@ impl Schedule {
         ask(self.reaches[i - 1] & !allowed == 0, Refusal::Reach)
     }
 
-    /// Question 7: f at most t.
+    /// Question 7: f at most t. It comes after the questions on every process, though the count may end before them.
     pub fn ask_crashes(&self) -> Result<(), Refusal> {
         ask(self.f() <= self.t, Refusal::TooManyCrashes)
     }

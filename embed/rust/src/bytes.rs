@@ -10,7 +10,7 @@
 use std::mem::size_of;
 use std::slice::from_raw_parts;
 
-use crate::{Code, Counts, Set, Vote};
+use crate::{Code, Counts, CrashCount, Set, Vote};
 
 /// A member's state: n, t, own number, the round to play next, the estimate and the decided round, a byte each.
 pub type State = [u8; 6];
@@ -39,6 +39,12 @@ mod foreign {
             rounds: *mut u8,
             rounds_length: usize,
             counts: *mut usize,
+        ) -> u8;
+        pub fn fcwfa_count_crashes(
+            t: usize,
+            crashes: *const u8,
+            crashes_length: usize,
+            counted: *mut usize,
         ) -> u8;
     }
 }
@@ -110,6 +116,19 @@ pub fn simulate(
         )
     };
     accepted(number, Counts::of_table(counts))
+}
+
+/// Counts the crashes in a table of crash rounds, up to the one that is too many for t: see [`count_crashes`](crate::count_crashes).
+///
+/// Refusals: none, whatever t is and however long the table.
+pub fn count_crashes(t: usize, crashes: &[u8]) -> Result<CrashCount, u8> {
+    let mut counted = [0; 2];
+    // SAFETY: the first pointer is good for the length given with it and the second for two numbers; what is written is this call's own,
+    // so it overlaps with nothing else.
+    let number = unsafe {
+        foreign::fcwfa_count_crashes(t, crashes.as_ptr(), crashes.len(), counted.as_mut_ptr())
+    };
+    accepted(number, CrashCount::of_table(counted))
 }
 
 // A code and a vote are a byte each.

@@ -57,11 +57,13 @@
 #![deny(unsafe_code)]
 
 pub mod bytes;
+mod crashes;
 mod member;
 mod refusal;
 mod simulator;
 mod values;
 
+pub use crashes::{count_crashes, CrashCount};
 pub use member::Member;
 pub use refusal::Refusal;
 pub use simulator::{simulate, Counts, Report};

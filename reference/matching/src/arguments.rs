@@ -4,7 +4,7 @@ use std::path::PathBuf;
 
 /// What the program says when its arguments are wrong.
 pub const USAGE: &str = "\
-matching [--bench PATH] [--seed S]... [--valid N] [--damaged N] [--tables N] [--members N] [--skip-small]
+matching [--bench PATH] [--seed S]... [--valid N] [--damaged N] [--tables N] [--counts N] [--members N] [--skip-small]
 matching --self-test
 matching --help";
 
@@ -15,7 +15,7 @@ const FIRST_SEED: u64 = 1;
 pub fn help() -> String {
     let default = Arguments::default();
     let (valid, damaged) = (default.valid, default.damaged);
-    let (tables, members) = (default.tables, default.members);
+    let (tables, counts, members) = (default.tables, default.counts, default.members);
     format!(
         "\
 Puts the same input through the proved code and through the reference, and compares the answers.
@@ -27,6 +27,7 @@ Puts the same input through the proved code and through the reference, and compa
   --valid N      how many texts of accepted schedules [{valid}]
   --damaged N    how many damaged texts that are refused [{damaged}]
   --tables N     how many calls on tables [{tables}]
+  --counts N     how many counts of crashes [{counts}]
   --members N    how many calls to a member [{members}]
   --skip-small   skip the schedules with n = 4 and t = 3 [all of them are compared]
   --self-test    show that differences are found, in place of the matching
@@ -58,6 +59,8 @@ pub struct Arguments {
     pub damaged: u64,
     /// How many calls on tables.
     pub tables: u64,
+    /// How many counts of crashes.
+    pub counts: u64,
     /// How many calls to a member.
     pub members: u64,
     /// Skip the schedules with n = 4 and t = 3.
@@ -74,6 +77,7 @@ impl Default for Arguments {
             valid: 4_000,
             damaged: 4_000,
             tables: 200_000,
+            counts: 1_000_000,
             members: 1_000_000,
             skip_small: false,
         }
@@ -122,6 +126,7 @@ fn set(arguments: &mut Arguments, name: &str, value: &str) -> Result<(), String>
         "--valid" => arguments.valid = number()?,
         "--damaged" => arguments.damaged = number()?,
         "--tables" => arguments.tables = number()?,
+        "--counts" => arguments.counts = number()?,
         "--members" => arguments.members = number()?,
         _ => return Err(format!("{name} is unknown")),
     }
@@ -147,8 +152,8 @@ mod tests {
 
     #[test]
     fn values_are_taken() {
-        let line =
-            "--bench x --seed 5 --valid 1 --seed 6 --damaged 2 --tables 3 --members 4 --skip-small";
+        let line = "--bench x --seed 5 --valid 1 --seed 6 --damaged 2 --tables 3 --counts 4 \
+                    --members 5 --skip-small";
         let expected = Arguments {
             help: false,
             self_test: false,
@@ -157,7 +162,8 @@ mod tests {
             valid: 1,
             damaged: 2,
             tables: 3,
-            members: 4,
+            counts: 4,
+            members: 5,
             skip_small: true,
         };
         assert_eq!(parsed(line), Ok(expected));

@@ -12,7 +12,7 @@ use crate::random::Random;
 type Damage = fn(&mut Random, &Schedule, &mut Vec<u8>);
 
 /// The damages and their names, in which LONGEST stands for its number.
-pub const DAMAGES: [(&str, Damage); 34] = [
+pub const DAMAGES: [(&str, Damage); 35] = [
     ("byte changed", |random, _, text| byte_changed(random, text)),
     ("digit changed", |random, _, text| {
         digit_changed(random, text)
@@ -41,6 +41,7 @@ pub const DAMAGES: [(&str, Damage); 34] = [
     ("reach without a crash", reach_without_crash),
     ("reach too short or too long", reach_of_other_length),
     ("f above t", too_many_crashes),
+    ("f above t and a process wrong", too_many_and_wrong),
     ("f above t and bytes after the end", too_many_and_more),
     ("bytes after the end", bytes_after_the_end),
     ("filled up to LONGEST bytes", filled),
@@ -377,6 +378,13 @@ fn too_many_crashes(random: &mut Random, schedule: &Schedule, text: &mut Vec<u8>
             write_field(text, 3 + i, CRASH, crash);
         }
     }
+}
+
+/// The wrong process is often one after the crash that makes t + 1 of them; its own question goes before number 7.
+fn too_many_and_wrong(random: &mut Random, schedule: &Schedule, text: &mut Vec<u8>) {
+    too_many_crashes(random, schedule, text);
+    let wrong: [Damage; 3] = [vote_above_1, crash_above_last_round, reach_of_itself];
+    random.pick(&wrong)(random, schedule, text);
 }
 
 fn too_many_and_more(random: &mut Random, schedule: &Schedule, text: &mut Vec<u8>) {

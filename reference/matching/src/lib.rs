@@ -4,6 +4,7 @@
 //! it is found.
 
 pub mod arguments;
+pub mod crashes;
 pub mod damage;
 pub mod demands;
 pub mod generate;

@@ -38,6 +38,8 @@ pub struct Outcome {
     pub kinds: Vec<Kind>,
     /// The sizes n and t of the accepted schedules.
     pub sizes: BTreeSet<(usize, usize)>,
+    /// The lengths of the tables in which crashes were counted.
+    pub lengths: BTreeSet<usize>,
 }
 
 impl Outcome {
@@ -98,6 +100,7 @@ impl Outcome {
             kind.refused += more.refused;
         }
         self.sizes.extend(other.sizes);
+        self.lengths.extend(other.lengths);
         self.differences.extend(other.differences);
         self.differences.sort_by_key(|(case, _)| *case);
         self.differences.truncate(KEPT);

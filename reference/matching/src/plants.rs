@@ -6,22 +6,25 @@ use reference::report::answer;
 use reference::run::{Run, NONE};
 use reference::schedule::{bit, Schedule};
 
+use crate::crashes::{self, CountCrashes};
 use crate::members::{self, Machine};
 use crate::outcome::{share, Outcome};
 use crate::random::Random;
 use crate::summary::{spelled, Summary};
 use crate::tables::{self, by_reference, Simulate};
 use crate::texts::{self, Program};
-use crate::whole::check_small_count;
-use crate::wrong::{self, Change, Hear, Wrong, COUNTS, FIRSTS, RIGHT, TURNS};
+use crate::whole::{check_lengths, check_small_count};
+use crate::wrong::{self, Change, Hear, Wrong, COUNTS, CRASHES, ENDS, FIRSTS, RIGHT, TURNS};
 use crate::{demands, generate, small};
 
-/// The seed and the counts of the self-test. Every size comes up twice among the valid texts.
+/// The seed and the counts of the self-test. Every size comes up twice among the valid texts, and every length of a
+/// table with every kind of count of crashes.
 const SEED: u64 = 1;
 const VALID: u64 = 2 * generate::SIZES_COUNT as u64;
-const DAMAGED: u64 = 1_360;
+const DAMAGED: u64 = 1_400;
 const STEP: usize = 97;
-const TABLES: u64 = 14_000;
+const TABLES: u64 = 15_000;
+const CRASH_COUNTS: u64 = 2 * (crashes::KINDS.len() * crashes::LENGTHS) as u64;
 const MEMBERS: u64 = 70_000;
 
 /// A planted difference: the part of the matching, its name, and what that part then finds.
@@ -96,6 +99,7 @@ pub fn controls() -> Vec<Plant> {
         every_nth(NAME, &by_reference),
         promised(NAME, Member::after, unchanged),
         called(NAME, &by_reference),
+        counted(NAME, &crashes::by_reference),
         machine(NAME, &RIGHT),
     ]
 }
@@ -106,21 +110,25 @@ pub fn plants() -> Vec<Plant> {
     plants.extend(counts());
     plants.extend(in_texts());
     plants.extend(in_calls());
+    plants.extend(in_crash_counts());
     plants.extend(in_promises());
     plants.extend(in_members());
     plants
 }
 
-/// Faults other than differences: a refusal number that is never met, and a schedule left out.
+/// Faults other than differences: a refusal number that is never met, a schedule left out, and a length left out.
 pub fn faults() -> Vec<Plant> {
     let right = |text: &[u8]| Ok(answer(text));
     let few = texts::compare_damaged(SEED, 3, &right);
     let mut left_out = every_nth("schedules left out", &by_reference);
     check_small_count(&mut left_out.summary, &left_out.outcome);
+    let too_few = CRASH_COUNTS / 2 - crashes::KINDS.len() as u64;
+    let short = counted_times("one length left out", too_few, &crashes::by_reference);
     let name = "refusal numbers never met";
     vec![
         Plant::new("damaged texts", name, few, &texts::NUMBERS),
         left_out,
+        short,
     ]
 }
 
@@ -138,7 +146,8 @@ fn turns() -> Vec<Plant> {
     TURNS.into_iter().flat_map(of_turn).collect()
 }
 
-/// The wrong turns of counting messages and the wrong orders of the first decider, in every part that gives counts.
+/// The wrong turns of counting messages, the wrong orders of the first decider and the wrong turns of f, in every part
+/// that gives counts.
 fn counts() -> Vec<Plant> {
     let of_turn = |(name, change): (&'static str, Change)| {
         let simulate = wrong::simulate_by(Member::after, change);
@@ -148,7 +157,8 @@ fn counts() -> Vec<Plant> {
             called(name, &simulate),
         ]
     };
-    COUNTS.into_iter().chain(FIRSTS).flat_map(of_turn).collect()
+    let turns = COUNTS.into_iter().chain(FIRSTS).chain(CRASHES);
+    turns.flat_map(of_turn).collect()
 }
 
 fn in_texts() -> Vec<Plant> {
@@ -166,6 +176,14 @@ fn in_texts() -> Vec<Plant> {
         damaged(
             "number 7 with a wrong line",
             &wrong::refused_by(wrong::wrong_line),
+        ),
+        damaged(
+            "number 7 with the line of the crash that is too many",
+            &wrong::refused_by(wrong::line_of_the_crash),
+        ),
+        damaged(
+            "number 7 asked before later processes",
+            &wrong::refused_by(wrong::crashes_before_later_lines),
         ),
         damaged(
             "a refused line without its NUL",
@@ -190,10 +208,20 @@ fn in_calls() -> Vec<Plant> {
         every_nth("messages off by one at f = t", &more),
         called("messages off by one at f = t", &more),
         called("a table changed on refusal 7", &wrong::table_on_refusal),
+        called(
+            "number 7 asked before later processes",
+            &wrong::crashes_before_later_processes,
+        ),
         called("a rounds table that is too long", &wrong::long_table),
         called("reaches above n let pass", &wrong::reach_above_n),
         called("n and t taken as bytes", &wrong::sizes_as_bytes),
     ]
+}
+
+/// The wrong counts of crashes.
+fn in_crash_counts() -> Vec<Plant> {
+    let of_count = |(name, count): (&'static str, wrong::Count)| counted(name, &count);
+    ENDS.into_iter().map(of_count).collect()
 }
 
 fn in_promises() -> Vec<Plant> {
@@ -250,6 +278,17 @@ fn every_nth(name: &'static str, simulate: Simulate) -> Plant {
 fn called(name: &'static str, simulate: Simulate) -> Plant {
     let outcome = tables::compare(SEED, TABLES, simulate);
     Plant::new("calls on tables", name, outcome, &tables::NUMBERS)
+}
+
+fn counted(name: &'static str, count_crashes: CountCrashes) -> Plant {
+    counted_times(name, CRASH_COUNTS, count_crashes)
+}
+
+fn counted_times(name: &'static str, count: u64, count_crashes: CountCrashes) -> Plant {
+    let outcome = crashes::compare(SEED, count, count_crashes);
+    let mut plant = Plant::new("counts of crashes", name, outcome, &[]);
+    check_lengths(&mut plant.summary, &plant.outcome);
+    plant
 }
 
 fn machine(name: &'static str, machine: &dyn Machine) -> Plant {

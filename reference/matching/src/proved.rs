@@ -1,6 +1,7 @@
 //! The proved bench and members, called in-process on bare bytes and numbers, so that anything can be passed.
 
 use fcwfa::bytes;
+use reference::crashes::CrashCount;
 use reference::run::Counts;
 use reference::schedule::Schedule;
 
@@ -29,6 +30,15 @@ pub fn simulate(
         first: counts.first,
         last: counts.last,
         messages: counts.messages,
+    })
+}
+
+/// The count of crashes.
+pub fn count_crashes(t: usize, crashes: &[u8]) -> Result<CrashCount, u8> {
+    let counted = bytes::count_crashes(t, crashes)?;
+    Ok(CrashCount {
+        count: counted.count,
+        looked_at: counted.looked_at,
     })
 }
 

@@ -100,7 +100,7 @@ fn accepted_call(random: &mut Random) -> Call {
 type Change = fn(&mut Random, &mut Call);
 
 /// The kinds of calls and their names.
-pub const KINDS: [(&str, Change); 14] = [
+pub const KINDS: [(&str, Change); 15] = [
     ("accepted", |_, _| {}),
     ("accepted, too", |_, _| {}),
     ("n of any size", any_n),
@@ -114,6 +114,7 @@ pub const KINDS: [(&str, Change); 14] = [
     ("reach wrong", wrong_reach),
     ("any reach", any_reach),
     ("f above t", too_many_crashes),
+    ("f above t and a process wrong", too_many_and_wrong),
     ("several changes", several),
 ];
 
@@ -228,4 +229,11 @@ fn too_many_crashes(random: &mut Random, call: &mut Call) {
             *crash = random.within(1..=last) as u8;
         }
     }
+}
+
+/// The wrong process is often one after the crash that makes t + 1 of them; its own question goes before number 7.
+fn too_many_and_wrong(random: &mut Random, call: &mut Call) {
+    too_many_crashes(random, call);
+    let wrong: [Change; 3] = [vote_above_1, crash_above_last_round, wrong_reach];
+    random.pick(&wrong)(random, call);
 }

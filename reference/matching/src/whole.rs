@@ -4,9 +4,9 @@ use std::path::Path;
 
 use crate::arguments::Arguments;
 use crate::outcome::Outcome;
-use crate::proved::{simulate, Proved};
+use crate::proved::{count_crashes, simulate, Proved};
 use crate::summary::{print_part, Summary};
-use crate::{damage, generate, members, program, small, tables, texts};
+use crate::{crashes, damage, generate, members, program, small, tables, texts};
 
 /// Does everything that the arguments ask for, prints what is found, and gives the sum.
 pub fn run(arguments: &Arguments) -> Summary {
@@ -26,6 +26,7 @@ pub fn run(arguments: &Arguments) -> Summary {
     }
     for seed in &arguments.seeds {
         match_tables(&mut summary, *seed, arguments.tables);
+        match_counts(&mut summary, *seed, arguments.counts);
         match_members(&mut summary, *seed, arguments.members);
     }
     summary
@@ -100,6 +101,26 @@ fn match_tables(summary: &mut Summary, seed: u64, count: u64) {
             &outcome,
             &tables::NUMBERS,
         );
+    }
+}
+
+fn match_counts(summary: &mut Summary, seed: u64, count: u64) {
+    if asked("counts of crashes", count) {
+        let outcome = crashes::compare(seed, count, &count_crashes);
+        let (met, all) = (outcome.lengths.len(), crashes::LENGTHS);
+        let heading = format!("counts of crashes, seed {seed}, {met} of {all} lengths");
+        add(summary, &heading, &names(&crashes::KINDS), &outcome, &[]);
+        check_lengths(summary, &outcome);
+    }
+}
+
+/// Crashes have to be counted in tables of all lengths.
+pub fn check_lengths(summary: &mut Summary, outcome: &Outcome) {
+    let (met, all) = (outcome.lengths.len(), crashes::LENGTHS);
+    if met != all {
+        summary.fault(format!(
+            "crashes counted in tables of {met} lengths, not {all}"
+        ));
     }
 }
 

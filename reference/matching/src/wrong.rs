@@ -2,6 +2,7 @@
 
 use std::cmp::Reverse;
 
+use reference::crashes::{count_crashes, CrashCount};
 use reference::member::{Member, DECIDED_0, DECIDED_1, ESTIMATE_0, ESTIMATE_1, NOTHING};
 use reference::questions::Refusal;
 use reference::report::{answer, refusal, report};
@@ -226,6 +227,148 @@ fn first_by<K: Ord>(schedule: &Schedule, run: &mut Run, key: impl Fn(u8, u8, usi
     run.counts.first = first.unwrap_or(0);
 }
 
+/// Wrong turns of f that document 02's K4 invites.
+pub const CRASHES: [(&str, Change); 2] = [
+    ("f ends one crash early", |s, run| {
+        run.counts.f = run.counts.f.min(s.t - 1);
+    }),
+    ("the last process looked at given as f", |s, run| {
+        run.counts.f = s.n;
+    }),
+];
+
+/// A way of counting crashes: t and a table of crash rounds to the count, or to a number though nothing is refused.
+pub type Count = fn(usize, &[u8]) -> Result<CrashCount, u8>;
+
+/// Wrong counts of crashes that document 02's K4 invites: those that end at a wrong place, then those that end rightly
+/// and tell it wrongly, then those that miss a crash, a part of t or a part of the table, and one that refuses.
+pub const ENDS: [(&str, Count); 20] = [
+    ("the count ends one crash early", |t, crashes| {
+        Ok(count_crashes(t.saturating_sub(1), crashes))
+    }),
+    ("the count ends one crash late", |t, crashes| {
+        Ok(count_crashes(t.saturating_add(1), crashes))
+    }),
+    ("the count goes on to the end", |_, crashes| {
+        Ok(full(crashes))
+    }),
+    ("the count ends at the first crash", |_, crashes| {
+        Ok(count_crashes(0, crashes))
+    }),
+    ("t + 1 wraps to 0", |t, crashes| {
+        counted(t, crashes, |counted| {
+            if t == usize::MAX {
+                *counted = NOBODY;
+            }
+        })
+    }),
+    ("a place given, not a number", |t, crashes| {
+        too_many(t, crashes, |counted| counted.looked_at -= 1)
+    }),
+    ("the process after the crash given", |t, crashes| {
+        too_many(t, crashes, |counted| counted.looked_at += 1)
+    }),
+    ("n given where the count ends sooner", |t, crashes| {
+        too_many(t, crashes, |counted| counted.looked_at = crashes.len())
+    }),
+    ("the full count with the crash's process", |t, crashes| {
+        too_many(t, crashes, |counted| counted.count = full(crashes).count)
+    }),
+    ("t counted, not t + 1", |t, crashes| {
+        too_many(t, crashes, |counted| counted.count = t)
+    }),
+    ("n + 1 given at the end", |t, crashes| {
+        enough(t, crashes, |counted| counted.looked_at += 1)
+    }),
+    ("the last crash's process given at the end", |t, crashes| {
+        enough(t, crashes, |counted| {
+            let last = crashes.iter().rposition(|crash| *crash != 0);
+            counted.looked_at = last.map_or(0, |place| place + 1);
+        })
+    }),
+    ("one process looked at in an empty table", |t, crashes| {
+        counted(t, crashes, |counted| {
+            counted.looked_at = counted.looked_at.max(1);
+        })
+    }),
+    ("only crash rounds of 1 counted", |t, crashes| {
+        only(t, crashes, |crash| crash == 1)
+    }),
+    ("crash rounds above t + 1 not counted", |t, crashes| {
+        only(t, crashes, |crash| {
+            usize::from(crash) <= t.saturating_add(1)
+        })
+    }),
+    ("crash rounds of 255 not counted", |t, crashes| {
+        only(t, crashes, |crash| crash != 255)
+    }),
+    ("t taken as a byte", |t, crashes| {
+        Ok(count_crashes(t % 256, crashes))
+    }),
+    ("t taken as four bytes", |t, crashes| {
+        Ok(count_crashes(t as u32 as usize, crashes))
+    }),
+    (
+        "processes beyond the largest cluster left out",
+        |t, crashes| {
+            let looked_at = crashes.len().min(LARGEST);
+            Ok(count_crashes(t, &crashes[..looked_at]))
+        },
+    ),
+    ("refused with 7", |t, crashes| {
+        let counted = count_crashes(t, crashes);
+        if counted.count > t {
+            Err(7)
+        } else {
+            Ok(counted)
+        }
+    }),
+];
+
+/// A count that has looked at nobody.
+const NOBODY: CrashCount = CrashCount {
+    count: 0,
+    looked_at: 0,
+};
+
+/// The count to the end, however many crash.
+fn full(crashes: &[u8]) -> CrashCount {
+    count_crashes(usize::MAX, crashes)
+}
+
+/// The right count, changed.
+fn counted(t: usize, crashes: &[u8], change: impl Fn(&mut CrashCount)) -> Result<CrashCount, u8> {
+    let mut counted = count_crashes(t, crashes);
+    change(&mut counted);
+    Ok(counted)
+}
+
+/// The right count, changed where more than t crash.
+fn too_many(t: usize, crashes: &[u8], change: impl Fn(&mut CrashCount)) -> Result<CrashCount, u8> {
+    counted(t, crashes, |counted| {
+        if counted.count > t {
+            change(counted);
+        }
+    })
+}
+
+/// The right count, changed where at most t crash.
+fn enough(t: usize, crashes: &[u8], change: impl Fn(&mut CrashCount)) -> Result<CrashCount, u8> {
+    counted(t, crashes, |counted| {
+        if counted.count <= t {
+            change(counted);
+        }
+    })
+}
+
+/// The count of some crash rounds alone.
+fn only(t: usize, crashes: &[u8], some: impl Fn(u8) -> bool) -> Result<CrashCount, u8> {
+    let crashes = crashes
+        .iter()
+        .map(|crash| u8::from(*crash != 0 && some(*crash)));
+    Ok(count_crashes(t, &crashes.collect::<Vec<u8>>()))
+}
+
 /// A process acts in its crash round: it shows the decision of another one that decides there. (The fifth wrong turn
 /// that document 01 names.)
 pub fn acts_in_crash_round(schedule: &Schedule, run: &mut Run) {
@@ -291,6 +434,41 @@ pub fn crashes_before_end(text: &[u8], refused: Refused) -> Vec<u8> {
     }
 }
 
+/// Number 7 names the line of the crash that makes t + 1 of them.
+pub fn line_of_the_crash(text: &[u8], mut refused: Refused) -> Vec<u8> {
+    if refused.refusal == Refusal::TooManyCrashes {
+        let n = refused.line - 3;
+        refused.line = 3 + count_in_text(text, n).looked_at;
+    }
+    refusal(text, refused)
+}
+
+/// Number 7 is asked as soon as t + 1 crash: before numbers 4 to 6 on the lines after it.
+pub fn crashes_before_later_lines(text: &[u8], mut refused: Refused) -> Vec<u8> {
+    if let Refusal::Vote | Refusal::CrashRound | Refusal::Reach = refused.refusal {
+        let right = refused.line - 4;
+        if count_in_text(text, right).count > number(text, 2, 1) {
+            refused.refusal = Refusal::TooManyCrashes;
+            refused.line = 3 + number(text, 2, 0);
+        }
+    }
+    refusal(text, refused)
+}
+
+/// The count of crashes among the first so many processes of a text whose lines are of their form up to there.
+fn count_in_text(text: &[u8], processes: usize) -> CrashCount {
+    let crashes = (1..=processes).map(|i| number(text, 3 + i, 2) as u8);
+    count_crashes(number(text, 2, 1), &crashes.collect::<Vec<u8>>())
+}
+
+/// The number in a field, counted from 0, of a line that is of its form.
+fn number(text: &[u8], k: usize, field: usize) -> usize {
+    let mut fields = line(text, k).split(|byte| *byte == b' ');
+    let digits = fields.nth(field).unwrap_or_default();
+    let append = |number, digit: &u8| 10 * number + usize::from(digit - b'0');
+    digits.iter().fold(0, append)
+}
+
 /// A text of LONGEST + 1 bytes is read.
 pub fn long_text(text: &[u8]) -> Result<Vec<u8>, String> {
     Ok(match text.len() {
@@ -329,6 +507,23 @@ pub fn table_on_refusal(
         *round = round.wrapping_add(1);
     }
     counts
+}
+
+/// Number 7 is asked as soon as t + 1 crash: before the questions on the processes after it.
+pub fn crashes_before_later_processes(
+    schedule: &Schedule,
+    decisions: &mut [u8],
+    rounds: &mut [u8],
+) -> Result<Counts, u8> {
+    let answer = by_reference(schedule, decisions, rounds);
+    if let Err(4..=6) = answer {
+        let right = (1..=schedule.n).take_while(|i| schedule.ask_process(*i).is_ok());
+        let crashes = &schedule.crashes[..right.count()];
+        if count_crashes(schedule.t, crashes).count > schedule.t {
+            return Err(7);
+        }
+    }
+    answer
 }
 
 /// A rounds table that is too long is let pass.
@@ -456,7 +651,7 @@ mod tests {
         turns.map(|(_, change)| changed_run(&schedule, Member::after, change).counts)
     }
 
-    fn counted(crashes: &[Crash]) -> [usize; 4] {
+    fn messages(crashes: &[Crash]) -> [usize; 4] {
         changed(COUNTS, crashes).map(|counts| counts.messages)
     }
 
@@ -467,12 +662,12 @@ mod tests {
     /// The first of each is the count that document 01 gave, before K1; H there reaches nobody, and 44 + 2 is 46.
     #[test]
     fn wrong_turns_of_counting() {
-        assert_eq!(counted(&[]), [48, 24, 36, 36]);
-        assert_eq!(counted(D), [49, 25, 39, 37]);
-        assert_eq!(counted(E), [31, 17, 30, 24]);
-        assert_eq!(counted(H), [46, 24, 36, 35]);
-        assert_eq!(counted(I), [43, 23, 33, 33]);
-        assert_eq!(counted(J), [48, 24, 36, 39]);
+        assert_eq!(messages(&[]), [48, 24, 36, 36]);
+        assert_eq!(messages(D), [49, 25, 39, 37]);
+        assert_eq!(messages(E), [31, 17, 30, 24]);
+        assert_eq!(messages(H), [46, 24, 36, 35]);
+        assert_eq!(messages(I), [43, 23, 33, 33]);
+        assert_eq!(messages(J), [48, 24, 36, 39]);
     }
 
     /// The right first deciders are 1, 2, 2, 2, 3, 1 and 1.
@@ -490,5 +685,78 @@ mod tests {
         assert_eq!(firsts(&later_and_sooner), [1, 1, 2, 1, 1, 4, 2]);
         let sooner_and_later = [(3, 2, 0b0011), (1, 3, 0), (2, 4, 0)];
         assert_eq!(firsts(&sooner_and_later), [1, 1, 1, 2, 2, 4, 2]);
+    }
+
+    #[test]
+    fn wrong_turns_of_f() {
+        let fs = |crashes| changed(CRASHES, crashes).map(|counts| counts.f);
+        assert_eq!(fs(&[]), [0, 4]);
+        assert_eq!(fs(D), [1, 4]);
+        assert_eq!(fs(E), [2, 4]);
+    }
+
+    /// The count and the last process looked at of each of the wrong counts, in their order; (7, 7) for refusal 7.
+    fn ends(t: usize, crashes: &[u8]) -> [(usize, usize); 20] {
+        ENDS.map(|(_, count)| match count(t, crashes) {
+            Ok(counted) => (counted.count, counted.looked_at),
+            Err(number) => (number.into(), number.into()),
+        })
+    }
+
+    /// The places of the wrong counts that differ from the right one, each with what it gives.
+    fn wrong_ends(t: usize, crashes: &[u8], right: (usize, usize)) -> Vec<(usize, (usize, usize))> {
+        let of_place = ends(t, crashes).into_iter().enumerate();
+        of_place.filter(|(_, found)| *found != right).collect()
+    }
+
+    #[test]
+    fn wrong_counts_of_crashes() {
+        // Processes 2, 3 and 5 crash. With t = 1 the count ends at process 3.
+        let crashes = [0, 1, 3, 0, 255, 0];
+        let expected = [
+            (0, (1, 2)),
+            (1, (3, 5)),
+            (2, (3, 6)),
+            (3, (1, 2)),
+            (5, (2, 2)),
+            (6, (2, 4)),
+            (7, (2, 6)),
+            (8, (3, 3)),
+            (9, (1, 3)),
+            (13, (1, 6)),
+            (14, (1, 6)),
+            (19, (7, 7)),
+        ];
+        assert_eq!(wrong_ends(1, &crashes, (2, 3)), expected);
+        // With t = 3 no crash is too many.
+        let expected = [
+            (0, (3, 5)),
+            (3, (1, 2)),
+            (10, (3, 7)),
+            (11, (3, 5)),
+            (13, (1, 6)),
+            (14, (2, 6)),
+            (15, (2, 6)),
+        ];
+        assert_eq!(wrong_ends(3, &crashes, (3, 6)), expected);
+        // The largest t, an empty table, and one process more than in the largest cluster.
+        let expected = [(10, (0, 1)), (12, (0, 1))];
+        assert_eq!(wrong_ends(usize::MAX, &[], (0, 0)), expected);
+        let all = LARGEST + 1;
+        let expected = [
+            (3, (1, 1)),
+            (4, (0, 0)),
+            (10, (all, all + 1)),
+            (18, (LARGEST, LARGEST)),
+        ];
+        assert_eq!(
+            wrong_ends(usize::MAX, &[1; LARGEST + 1], (all, all)),
+            expected
+        );
+        // A t whose last four bytes are 0, and one whose last byte is 0.
+        let expected = [(3, (1, 1)), (10, (2, 3)), (16, (1, 1)), (17, (1, 1))];
+        assert_eq!(wrong_ends(1 << 32, &[1, 1], (2, 2)), expected);
+        let expected = [(3, (1, 1)), (10, (2, 3)), (16, (1, 1))];
+        assert_eq!(wrong_ends(1 << 8, &[1, 1], (2, 2)), expected);
     }
 }
