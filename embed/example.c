@@ -1,8 +1,9 @@
 /*
- * Two uses of the library. First a cluster of four members in one process:
+ * Three uses of the library. First a cluster of four members in one process:
  * they commit; with one vote for abort they abort; and they abort where one of
  * them crashes in round 1. Then the simulator on the same crash, and on a
- * schedule that is refused. Compiles as C11 and as C++.
+ * schedule that is refused. Then the crashes of a table, counted up to the one
+ * that is too many. Compiles as C11 and as C++.
  */
 #include <assert.h>
 #include <stdio.h>
@@ -108,6 +109,17 @@ static void simulate(uint8_t crash, fcwfa_set reach)
     }
 }
 
+/* Counts the crashes of the first `length` processes of six, with at most t to bear. */
+static void count(size_t t, size_t length)
+{
+    const uint8_t crashes[6] = {1, 0, 3, 2, 255, 0};
+    size_t counted[FCWFA_COUNTED] = {7, 7};
+
+    uint8_t number = fcwfa_count_crashes(t, crashes, length, counted);
+    printf("%d: %zu, last looked at %zu\n", number, counted[FCWFA_COUNTED_CRASHES],
+           counted[FCWFA_COUNTED_LAST]);
+}
+
 int main(void)
 {
     const uint8_t all_commit[N] = {1, 1, 1, 1};
@@ -129,5 +141,11 @@ int main(void)
     simulate(1, only(1));
     puts("a member with the number 5 of 4");
     printf("refused by question %d\n", fcwfa_open(N, T, 5, 1, state));
+    puts("processes 1, 3, 4 and 5 of six crash: counted for t = 1, 3 and 4, for the largest t, and the first none of them");
+    count(1, 6);
+    count(3, 6);
+    count(4, 6);
+    count(SIZE_MAX, 6);
+    count(1, 0);
     return 0;
 }

@@ -32,9 +32,9 @@ extern "C" {
  * it. It changes with what a program must know to call the library.
  */
 #define FCWFA_VERSION_MAJOR 0
-#define FCWFA_VERSION_MINOR 3
+#define FCWFA_VERSION_MINOR 4
 #define FCWFA_VERSION_PATCH 0
-#define FCWFA_VERSION "0.3.0"
+#define FCWFA_VERSION "0.4.0"
 
 /* The largest number of processes. */
 #define FCWFA_LARGEST_N 32
@@ -168,6 +168,31 @@ uint8_t fcwfa_simulate(size_t n, size_t t,
                        uint8_t *decisions, size_t decisions_length,
                        uint8_t *rounds, size_t rounds_length,
                        size_t counts[FCWFA_COUNTS]);
+
+/* What fcwfa_count_crashes writes to `counted`, at these places. */
+#define FCWFA_COUNTED 2
+/*
+ * How many of the processes looked at crash: t + 1 if more than t processes of
+ * the table crash, and else as many as crash.
+ */
+#define FCWFA_COUNTED_CRASHES 0
+/*
+ * The number of the last process looked at: the one whose crash makes t + 1 of
+ * them; where there is no such crash, that of the last process of the table, and
+ * 0 if the table is empty.
+ */
+#define FCWFA_COUNTED_LAST 1
+
+/*
+ * Counts the processes that crash in a table of crash rounds, 0 for never, entry
+ * i - 1 being process i's, and ends at the crash that makes t + 1 of them. A
+ * count above t is what fcwfa_simulate refuses with 7. t, the bytes and their
+ * number are any.
+ * Refusals: none. It returns 0.
+ */
+uint8_t fcwfa_count_crashes(size_t t,
+                            const uint8_t *crashes, size_t crashes_length,
+                            size_t counted[FCWFA_COUNTED]);
 
 #ifdef __cplusplus
 }

@@ -6,10 +6,10 @@ use crate::refusal::unknown;
 /// What a count of crashes found.
 #[derive(Clone, Copy, Debug, PartialEq, Eq, Hash)]
 pub struct CrashCount {
-    /// How many of the processes looked at crash: t + 1 where these are too many, and otherwise all that crash.
+    /// How many of the processes looked at crash: t + 1 if more than t of the table crash, and else as many as crash.
     pub count: usize,
-    /// The number of the last process looked at: the one whose crash makes t + 1 of them, or the last of the table where there is no such
-    /// crash; 0 for an empty table.
+    /// The number of the last process looked at: the one whose crash makes t + 1 of them; where there is no such crash, that of the last
+    /// process of the table, and 0 if the table is empty.
     pub looked_at: usize,
 }
 
@@ -20,10 +20,10 @@ impl CrashCount {
     }
 }
 
-/// Counts the processes that crash in a table of crash rounds, 0 for never, process i's at place i - 1. It ends at the crash that makes
-/// t + 1 of them: so `count <= t` tells whether t crashes are enough, which is the last question of [`simulate`](crate::simulate).
+/// Counts the processes that crash in a table of crash rounds, 0 for never, process i's at place i - 1, and ends at the crash that makes
+/// t + 1 of them. A count above t is what [`simulate`](crate::simulate) refuses with [`Refusal::Crashes`](crate::Refusal::Crashes).
 ///
-/// It refuses nothing: t and the length of the table are any.
+/// t, the crash rounds and their number are any: nothing is refused.
 pub fn count_crashes(t: usize, crashes: &[u8]) -> CrashCount {
     bytes::count_crashes(t, crashes).unwrap_or_else(|number| unknown("refusal", number))
 }

@@ -1,6 +1,6 @@
 //! The calls on bare bytes and numbers: they take anything, and what is refused changes nothing.
-use fcwfa::bytes::{hear, open, say, simulate, NO_DECISION};
-use fcwfa::{Counts, Set};
+use fcwfa::bytes::{count_crashes, hear, open, say, simulate, NO_DECISION};
+use fcwfa::{Counts, CrashCount, Set};
 
 #[test]
 fn members_commit() {
@@ -78,4 +78,17 @@ fn a_refused_schedule_leaves_the_tables_as_they_were() {
     assert_eq!(run(3, &[1; 4], &[1; 4], &[1; 4]), Err(6));
     assert_eq!(run(3, &[1; 4], &[1; 4], &[0; 4]), Err(7));
     assert_eq!((decisions, rounds), ([9; 4], [9; 4]));
+}
+
+#[test]
+fn a_count_of_crashes_takes_anything() {
+    let counted = |count, looked_at| Ok(CrashCount { count, looked_at });
+    for t in [0, 3, usize::MAX] {
+        assert_eq!(count_crashes(t, &[]), counted(0, 0));
+        assert_eq!(count_crashes(t, &[0; 100]), counted(0, 100));
+    }
+    assert_eq!(count_crashes(0, &[0, 255, 1]), counted(1, 2));
+    assert_eq!(count_crashes(98, &[9; 100]), counted(99, 99));
+    assert_eq!(count_crashes(99, &[9; 100]), counted(100, 100));
+    assert_eq!(count_crashes(usize::MAX, &[9; 100]), counted(100, 100));
 }

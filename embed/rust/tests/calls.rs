@@ -1,5 +1,6 @@
 //! The crate as a program uses it.
-use fcwfa::{simulate, Code, Counts, Decided, Decision, Member, Refusal, Report, Vote, LARGEST};
+use fcwfa::{count_crashes, simulate, Code, Counts, CrashCount, Decided, Decision};
+use fcwfa::{Member, Refusal, Report, Vote, LARGEST};
 
 /// A decision with its round.
 fn decided(decision: Decision, round: usize) -> Option<Decided> {
@@ -114,6 +115,20 @@ fn a_schedule_that_breaks_a_rule_is_refused() {
     assert_eq!(run(4, 3, &[5; 4], &[9; 4]), Err(Refusal::Crash));
     assert_eq!(run(4, 3, &[1; 4], &[1; 4]), Err(Refusal::Reach));
     assert_eq!(run(4, 3, &[1; 4], &[0; 4]), Err(Refusal::Crashes));
+}
+
+/// The count ends at the crash that is too many, and above t it goes with a refusal.
+#[test]
+fn crashes_are_counted_up_to_the_one_too_many() {
+    let crashes = [1, 0, 2, 3, 4, 4];
+    let counted = |count, looked_at| CrashCount { count, looked_at };
+    assert_eq!(count_crashes(1, &crashes), counted(2, 3));
+    assert_eq!(count_crashes(3, &crashes), counted(4, 5));
+    assert_eq!(count_crashes(4, &crashes), counted(5, 6));
+    assert_eq!(count_crashes(5, &crashes), counted(5, 6));
+    let run = |t| simulate(6, t, &[Vote::Commit; 6], &crashes, &[0; 6]);
+    assert_eq!(run(4), Err(Refusal::Crashes));
+    assert_eq!(run(5).map(|report| report.counts.f), Ok(5));
 }
 
 /// Process 2 of n crashes in round 1 and reaches the last process of the largest cluster alone.
