@@ -109,7 +109,7 @@ static void simulate(uint8_t crash, fcwfa_set reach)
     }
 }
 
-/* Counts the crashes of the first `length` processes of six, with at most t to bear. */
+/* Counts the crashes of the first `length` of six processes. */
 static void count(size_t t, size_t length)
 {
     const uint8_t crashes[6] = {1, 0, 3, 2, 255, 0};
@@ -141,7 +141,7 @@ int main(void)
     simulate(1, only(1));
     puts("a member with the number 5 of 4");
     printf("refused by question %d\n", fcwfa_open(N, T, 5, 1, state));
-    puts("processes 1, 3, 4 and 5 of six crash: counted for t = 1, 3 and 4, for the largest t, and the first none of them");
+    puts("processes 1, 3, 4 and 5 of six crash: counted with t = 1, 3, 4 and the largest, and in an empty table");
     count(1, 6);
     count(3, 6);
     count(4, 6);
