@@ -1,13 +1,10 @@
--- The least number below n that passes a test, or n: what holds of it, and that nothing else does. Assumes nothing.
-use mathlib.Core.Path.{_≡_, refl, sym, ap, _∙_}
-use mathlib.Core.Logic.{inl, inr}
-use mathlib.Core.Bool.{Bool, true, false, true≢false}
-use Prim.Native.Nat.{ℕ, zero, suc, _+_, _≤_, _<_, zero-le}
-use native.Mathlib.Nat.{not-suc-le-zero}
+-- The least number below n that passes a test, or n: which one it is. Assumes nothing.
+use mathlib.Core.Path.{_≡_, sym, ap, _∙_}
+use mathlib.Core.Bool.{Bool, true, false}
+use Prim.Native.Nat.{ℕ, zero, suc, _≤_, _<_}
 use native.Mathlib.Omega.{arith}
 use Rattle.laws.specs.Below.{least}
-use Rattle.laws.proofs.Test.{true-or-false, cond-true, cond-false}
-use Rattle.laws.proofs.Counting.{split}
+use Rattle.laws.proofs.Test.{cond-true, cond-false}
 
 least-here : (n : ℕ) (p : ℕ → Bool) → p 0 ≡ true → least (suc n) p ≡ 0
 unfolding least

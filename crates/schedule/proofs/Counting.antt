@@ -1,14 +1,14 @@
 -- The count of crashes that ends sooner: where it ends, what it comes to, and which number a schedule gets by it. Assumes nothing.
-use mathlib.Core.Path.{_≡_, refl, sym, ap, _∙_}
+use mathlib.Core.Path.{_≡_, sym, ap, _∙_}
 use mathlib.Core.Logic.{_⊎_, inl, inr}
-use mathlib.Core.Bool.{Bool, true, false}
+use mathlib.Core.Bool.{Bool, false}
 use mathlib.Core.List.{List}
 use Prim.Native.Nat.{ℕ, _+_, _≤_, _<_}
 use native.Mathlib.Omega.{arith}
 use borrow.Author.Tests.{eq-eqb, ne-eqb, lt-leb}
 use lib.Dec.{leb, eqb}
 use lib.ListN.{length, getD}
-use Rattle.laws.specs.Below.{bit, count}
+use Rattle.laws.specs.Below.{bit}
 use Rattle.laws.proofs.Below.{bit-high, count-step}
 use Rattle.laws.proofs.Counting.{split, count-longer, count-after}
 use Rattle.laws.proofs.Least.{least-is}

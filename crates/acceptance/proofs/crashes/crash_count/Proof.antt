@@ -2,17 +2,13 @@
 -- the loop goes on; once it is more, the process before place i is the one at which it ends. Assumes nothing.
 use mathlib.Core.Path.{_≡_, ap, _∙_}
 use mathlib.Core.Logic.{_⊎_, inl, inr}
-use mathlib.Core.Bool.{Bool}
-use mathlib.Core.List.{List}
 use Prim.Native.Nat.{ℕ, _≤_, _<_, _-_}
 use native.Mathlib.Omega.{arith}
 use borrow.Author.Needs.{needs}
 use borrow.Author.Tests.{leb-true, leb-false}
-use lib.ListN.{length, getD}
-use Rattle.laws.specs.Below.{count}
-use Rattle.laws.proofs.Below.{count-none, count-step, count-room}
-use Rattle.laws.proofs.Counting.{split}
-use Rattle.schedule.specs.Schedule.{everCrashes, crashesIn}
+use lib.ListN.{length}
+use Rattle.laws.proofs.Below.{count-none, count-room}
+use Rattle.schedule.specs.Schedule.{crashesIn}
 use Rattle.schedule.specs.Counting.{lookedAt}
 use Rattle.schedule.proofs.Counting.{ends-never, counted-up-to, counts-on, goes-on}
 use Rattle.acceptance.proofs.crashes.crash_count.Statement.{statement}
