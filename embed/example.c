@@ -117,7 +117,7 @@ static void count(size_t t, size_t length)
 
     uint8_t number = fcwfa_count_crashes(t, crashes, length, counted);
     printf("%d: %zu, last looked at %zu\n", number, counted[FCWFA_COUNTED_CRASHES],
-           counted[FCWFA_COUNTED_LAST]);
+           counted[FCWFA_COUNTED_LOOKED_AT]);
 }
 
 int main(void)

@@ -181,13 +181,13 @@ uint8_t fcwfa_simulate(size_t n, size_t t,
  * them; where there is no such crash, that of the last process of the table, and
  * 0 if the table is empty.
  */
-#define FCWFA_COUNTED_LAST 1
+#define FCWFA_COUNTED_LOOKED_AT 1
 
 /*
  * Counts the processes that crash in a table of crash rounds, 0 for never, entry
- * i - 1 being process i's, and ends at the crash that makes t + 1 of them. A
- * count above t is what fcwfa_simulate refuses with 7. t, the bytes and their
- * number are any.
+ * i - 1 being process i's, and ends at the crash that makes t + 1 of them. If
+ * the count is above t, fcwfa_simulate refuses such a table, with 7 where
+ * nothing before 7 is wrong. t and the table may be anything.
  * Refusals: none. It returns 0.
  */
 uint8_t fcwfa_count_crashes(size_t t,

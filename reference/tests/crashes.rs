@@ -114,8 +114,8 @@ fn tables_longer_than_a_number_has_bits() {
 #[test]
 fn every_small_table_is_counted_as_the_request_says() {
     for n in 0..=8 {
-        for crashing in 0..1 << n {
-            let crashes: Vec<u8> = (0..n).map(|place| crashing >> place & 1).collect();
+        for crashing in 0..1_u32 << n {
+            let crashes: Vec<u8> = (0..n).map(|place| (crashing >> place & 1) as u8).collect();
             for t in 0..=9 {
                 let (count, last) = counted(t, &crashes);
                 let to_last: u8 = crashes[..last].iter().sum();

@@ -45,3 +45,8 @@ pub record SimulatesNumbers (s : Schedule) (decisions rounds counts : List ℕ) 
 -- "answer, beside the count, the number of the last process it looked at": of t and a table of crash rounds
 abbrev pub countedNumbers : ℕ → List ℕ → List ℕ
 countedNumbers t crashes = crashesCounted t crashes ∷ lookedAt t crashes ∷ []
+
+-- What holds of them. Proved in proofs/Counts.antt: `counted-numbers : CountedNumbers`.
+pub record CountedNumbers : Type 0 where
+  -- the count first: with t = 1 it ends at the second crash, that of process 3
+  pub in-order : countedNumbers 1 (1 ∷ 0 ∷ 2 ∷ 3 ∷ []) ≡ 2 ∷ 3 ∷ []

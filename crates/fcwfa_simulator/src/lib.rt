@@ -51,6 +51,6 @@ pub extern "C" fn fcwfa_count_crashes(t: usize, crashes: &[u8], counted: &mut [u
     ensures counted_after { λ r. ⌜ now (counted .exit) ≡ countedNumbers t (now (crashes .entry)) ⌝ }
 {
     let found = acceptance::crash_count(t, crashes);
-    *counted = [found.count, found.last];
+    *counted = [found.count, found.looked];
     0
 }

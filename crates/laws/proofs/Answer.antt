@@ -34,7 +34,7 @@ and-then-went-on q others m h e =
     ]
 
 -- So where they come to 0, each does; and the other way.
-pub and-then-passed : (q others : ℕ) → andThen q others ≡ 0 → (q ≡ 0) × (others ≡ 0)
+and-then-passed : (q others : ℕ) → andThen q others ≡ 0 → (q ≡ 0) × (others ≡ 0)
 and-then-passed q others e = and-then-went-on q others 0 (λ z. z) e
 
 pub and-then-passes : (q others : ℕ) → q ≡ 0 → others ≡ 0 → andThen q others ≡ 0

@@ -110,8 +110,22 @@ count-pos n p k l e =
     let h = count-strict n (λ j. false) p (λ j _ e. absurd (true≢false (sym e))) k l refl e in
     omega arith
 
+-- where more than t pass, one does after just t
+pub count-after : (n : ℕ) (p : ℕ → Bool) (t : ℕ) → t < count n p → Some n λ i. (p i ≡ true) × (count i p ≡ t)
+unfolding count
+count-after zero p t h = absurd (omega arith)
+count-after (suc n) p t h =
+    elim (split (count n p) t) [
+      | inl l ↦
+          elim (true-or-false (p n)) [
+            | inl e ↦ let b : bit (p n) ≡ 1 = ap bit e in (n, omega arith, (e, omega arith))
+            | inr e ↦ let b : bit (p n) ≡ 0 = ap bit e in absurd (omega arith)
+          ]
+      | inr l ↦ let s = count-after n p t l in (s .0, (let below : s .0 < n = s .1 in omega arith), s .2)
+    ]
+
 pub count-some : (n : ℕ) (p : ℕ → Bool) → 0 < count n p → Some n λ j. p j ≡ true
-count-some n p h = elim (find n p) [ inl s ↦ s | inr f ↦ absurd (let z = count-of-none n p f in omega arith) ]
+count-some n p h = let s = count-after n p 0 h in (s .0, s .1, s .2 .0)
 
 pub count-zero : (n : ℕ) (p : ℕ → Bool) → count n p ≡ 0 → (j : ℕ) → j < n → p j ≡ false
 count-zero n p h j l = elim (true-or-false (p j)) [ inl e ↦ absurd (let z = count-pos n p j l e in omega arith) | inr e ↦ e ]
@@ -149,18 +163,4 @@ count-longer i (suc n) p h =
     elim (split i n) [
       | inl l ↦ let a = count-longer i n p l in omega arith
       | inr l ↦ let z : i ≡ suc n = omega arith in rw z (omega arith)
-    ]
-
--- where more than t pass, one does after just t
-pub count-after : (n : ℕ) (p : ℕ → Bool) (t : ℕ) → t < count n p → Some n λ i. (p i ≡ true) × (count i p ≡ t)
-unfolding count
-count-after zero p t h = absurd (omega arith)
-count-after (suc n) p t h =
-    elim (split (count n p) t) [
-      | inl l ↦
-          elim (true-or-false (p n)) [
-            | inl e ↦ let b : bit (p n) ≡ 1 = ap bit e in (n, omega arith, (e, omega arith))
-            | inr e ↦ let b : bit (p n) ≡ 0 = ap bit e in absurd (omega arith)
-          ]
-      | inr l ↦ let s = count-after n p t l in (s .0, (let below : s .0 < n = s .1 in omega arith), s .2)
     ]

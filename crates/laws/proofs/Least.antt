@@ -1,4 +1,4 @@
--- The least number below n that passes a test, or n: which one it is. Assumes nothing.
+-- The least number below n that passes a test, or n: the one that passes if it is below n, and before which none does. Assumes nothing.
 use mathlib.Core.Path.{_≡_, sym, ap, _∙_}
 use mathlib.Core.Bool.{Bool, true, false}
 use Prim.Native.Nat.{ℕ, zero, suc, _≤_, _<_}

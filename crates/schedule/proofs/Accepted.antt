@@ -1,5 +1,6 @@
 -- The questions of a schedule come to 0 exactly where its n is from 4 to the limit, its tables and the answer tables are n long, and it keeps
--- the rules; those of one process come to 0 exactly where that process keeps its rules. Assumes nothing.
+-- the rules; those of one process come to 0 exactly where that process keeps its rules. They come to 7 only where more than t processes crash.
+-- Assumes nothing.
 use mathlib.Core.Path.{_≡_, refl, sym, _∙_}
 use mathlib.Core.Logic.{inl, inr, _≢_}
 use mathlib.Core.Bool.{Bool, true, false, not, _&&_, _||_, false≢true}

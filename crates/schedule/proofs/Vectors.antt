@@ -15,4 +15,4 @@ schedule-vectors = refl
 
 pub count-vectors : CountVectors
 unfolding sum count least crashesIn lookedAt crashesCounted
-count-vectors = record { counted = refl; last-looked-at = refl }
+count-vectors = record { counts = refl; looks-at = refl }

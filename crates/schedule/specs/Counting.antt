@@ -8,7 +8,7 @@ use Rattle.schedule.specs.Schedule.{crashesIn}
 
 module _ (t : ℕ) (crashes : List ℕ) where
   -- "the number of the last process it looked at: that crash's process, or n where there is no such crash": the least k such that the first k
-  -- processes hold t + 1 crashes, or n if there is none
+  -- processes hold t + 1 crashes, or n if there is none (where k is n, that is n too)
   unfoldable pub lookedAt : ℕ
   lookedAt = least (length crashes) (λ k. eqb (crashesIn k crashes) (t + 1))
 

@@ -84,33 +84,33 @@ pub record Count : Type 0 where
   pub t : ℕ
   pub crashes : List ℕ
   pub count : ℕ
-  pub last : ℕ
+  pub looked : ℕ
 
-abbrev pub counts : ℕ → List ℕ → ℕ → ℕ → Count
-counts t crashes count last = record { t = t; crashes = crashes; count = count; last = last }
+abbrev pub counted : ℕ → List ℕ → ℕ → ℕ → Count
+counted t crashes count looked = record { t = t; crashes = crashes; count = count; looked = looked }
 
 abbrev pub countVectors : List Count
 countVectors =
     -- an empty table has looked at nobody
-    counts 3 [] 0 0 ∷
-    counts 0 [] 0 0 ∷
+    counted 3 [] 0 0 ∷
+    counted 0 [] 0 0 ∷
     -- "n where there is no such crash": no crash, t crashes, and t crashes with the last at process n
-    counts 3 allZero 0 4 ∷
-    counts 3 (four 1 2 3 0) 3 4 ∷
-    counts 3 (four 0 2 3 4) 3 4 ∷
-    -- "it shall end at the crash that makes t + 1 of them .. that crash's process": it is process n, there are more after it, it is process 1, and
-    -- processes that do not crash are passed over; a crash round of 255 is a crash like any other
-    counts 3 (four 1 2 3 4) 4 4 ∷
-    counts 1 (four 1 2 3 4) 2 2 ∷
-    counts 0 (four 255 0 0 0) 1 1 ∷
-    counts 0 (four 0 0 3 0) 1 3 ∷
-    counts 1 (four 0 2 0 255) 2 4 ∷
-    counts 1 five 2 2 ∷
+    counted 3 allZero 0 4 ∷
+    counted 3 (four 1 2 3 0) 3 4 ∷
+    counted 3 (four 0 2 3 4) 3 4 ∷
+    -- "it shall end at the crash that makes t + 1 of them .. that crash's process": it is process n, there are more after it, it is process 1,
+    -- processes that do not crash are passed over, and all five of five crash; a crash round of 255 is a crash like any other
+    counted 3 (four 1 2 3 4) 4 4 ∷
+    counted 1 (four 1 2 3 4) 2 2 ∷
+    counted 0 (four 255 0 0 0) 1 1 ∷
+    counted 0 (four 0 0 3 0) 1 3 ∷
+    counted 1 (four 0 2 0 255) 2 4 ∷
+    counted 1 five 2 2 ∷
     -- t + 1 is 2^64
-    counts 18446744073709551615 (four 1 0 3 4) 3 4 ∷
+    counted 18446744073709551615 (four 1 0 3 4) 3 4 ∷
     []
 
 -- the count of each, and the last process that it looks at
 pub record CountVectors : Type 0 where
-  pub counted : map (λ c. crashesCounted (c .t) (c .crashes)) countVectors ≡ map (λ c. c .count) countVectors
-  pub last-looked-at : map (λ c. lookedAt (c .t) (c .crashes)) countVectors ≡ map (λ c. c .last) countVectors
+  pub counts : map (λ c. crashesCounted (c .t) (c .crashes)) countVectors ≡ map (λ c. c .count) countVectors
+  pub looks-at : map (λ c. lookedAt (c .t) (c .crashes)) countVectors ≡ map (λ c. c .looked) countVectors

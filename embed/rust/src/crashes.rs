@@ -21,9 +21,10 @@ impl CrashCount {
 }
 
 /// Counts the processes that crash in a table of crash rounds, 0 for never, process i's at place i - 1, and ends at the crash that makes
-/// t + 1 of them. A count above t is what [`simulate`](crate::simulate) refuses with [`Refusal::Crashes`](crate::Refusal::Crashes).
+/// t + 1 of them. If the count is above t, [`simulate`](crate::simulate) refuses such a table, with
+/// [`Refusal::Crashes`](crate::Refusal::Crashes) where nothing before it is wrong.
 ///
-/// t, the crash rounds and their number are any: nothing is refused.
+/// Nothing is refused: t and the table may be anything.
 pub fn count_crashes(t: usize, crashes: &[u8]) -> CrashCount {
     bytes::count_crashes(t, crashes).unwrap_or_else(|number| unknown("refusal", number))
 }

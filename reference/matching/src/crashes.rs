@@ -1,5 +1,5 @@
-//! Counts of crashes, in tables of every length up to [`LONGEST_TABLE`] and with a t of any size, through the call
-//! under test and through the reference.
+//! Counts of crashes, in tables of every length up to [`LONGEST_TABLE`] and of some hundreds, with a t of any size,
+//! through the call under test and through the reference.
 
 use reference::crashes::{self, CrashCount};
 use reference::LARGEST;
@@ -11,10 +11,10 @@ use crate::random::Random;
 /// always a difference.
 pub type CountCrashes<'a> = &'a (dyn Fn(usize, &[u8]) -> Result<CrashCount, u8> + Sync);
 
-/// The length of the longest table: above those of clusters, and above the bits of a number.
+/// Up to this length every one is met: it is above those of clusters, and above the bits of a number.
 pub const LONGEST_TABLE: usize = 80;
 
-/// How many lengths there are, 0 being one of them.
+/// How many such lengths there are, 0 being one of them.
 pub const LENGTHS: usize = LONGEST_TABLE + 1;
 
 /// The part's key for the random numbers.
@@ -38,7 +38,9 @@ pub fn compare(seed: u64, count: u64, count_crashes: CountCrashes) -> Outcome {
         let (kind, call) = of_case(seed, case);
         let expected = by_reference(call.t, &call.crashes);
         outcome.count(kind, expected.err());
-        outcome.lengths.insert(call.crashes.len());
+        if call.crashes.len() <= LONGEST_TABLE {
+            outcome.lengths.insert(call.crashes.len());
+        }
         let found = count_crashes(call.t, &call.crashes);
         outcome.compare(case, expected == found, || {
             format!("call: {call:?}\nreference: {expected:?}\nunder test: {found:?}\n")
@@ -47,6 +49,7 @@ pub fn compare(seed: u64, count: u64, count_crashes: CountCrashes) -> Outcome {
 }
 
 /// The call of a case and its kind. The lengths are walked: each comes up once with every kind, and then the next one.
+/// The tables of the last kind are longer.
 fn of_case(seed: u64, case: u64) -> (usize, Call) {
     let mut random = Random::of_case(seed, CRASHES, case);
     let place = case as usize;
@@ -64,7 +67,7 @@ type Table = fn(&mut Random, usize) -> Vec<u8>;
 type Limit = fn(&mut Random, &[u8]) -> usize;
 
 /// The kinds of calls and their names: kinds of tables with any t, and then kinds of t with any table.
-pub const KINDS: [(&str, (Table, Limit)); 17] = [
+pub const KINDS: [(&str, (Table, Limit)); 18] = [
     ("no crash", (no_crash, any_limit)),
     ("one crash", (one_crash, any_limit)),
     ("crashes at the ends only", (ends_crash, any_limit)),
@@ -82,14 +85,24 @@ pub const KINDS: [(&str, (Table, Limit)); 17] = [
     ("t up to above the length", (any_table, up_to_the_length)),
     ("t of any size", (any_table, any_size)),
     ("the largest t and those before it", (any_table, largest)),
+    ("tables of some hundreds", (longer_table, near)),
 ];
 
-/// How many of the kinds are kinds of tables; the others are kinds of t.
+/// How many of the kinds are kinds of tables; the others but the last are kinds of t.
 const TABLES: usize = 11;
+
+/// The place of the last kind.
+const LONGER: usize = KINDS.len() - 1;
 
 fn any_table(random: &mut Random, n: usize) -> Vec<u8> {
     let (_, (table, _)) = random.pick(&KINDS[..TABLES]);
     table(random, n)
+}
+
+/// A table of any kind that is 200 to 800 longer: a byte is too small for its places, and often for its count.
+fn longer_table(random: &mut Random, n: usize) -> Vec<u8> {
+    let longer = 200 * random.within(1..=4);
+    any_table(random, n + longer)
 }
 
 /// Any t, most often one near the number of crashes, where the count turns.
@@ -97,7 +110,7 @@ fn any_limit(random: &mut Random, crashes: &[u8]) -> usize {
     if random.one_in(2) {
         return near(random, crashes);
     }
-    let (_, (_, limit)) = random.pick(&KINDS[TABLES..]);
+    let (_, (_, limit)) = random.pick(&KINDS[TABLES..LONGER]);
     limit(random, crashes)
 }
 
@@ -226,9 +239,15 @@ mod tests {
     #[test]
     fn cases_walk_over_all_kinds_and_lengths() {
         let of_call = |(kind, call): (usize, Call)| (call.crashes.len(), kind);
-        let met = walk().into_iter().map(of_call);
-        let all = (0..LENGTHS).flat_map(|n| (0..KINDS.len()).map(move |kind| (n, kind)));
-        assert!(met.eq(all));
+        let (longer, met): (Vec<_>, Vec<_>) = walk()
+            .into_iter()
+            .map(of_call)
+            .partition(|(_, kind)| *kind == LONGER);
+        let all = (0..LENGTHS).flat_map(|n| (0..LONGER).map(move |kind| (n, kind)));
+        assert!(met.into_iter().eq(all));
+        assert_eq!(longer.len(), LENGTHS);
+        assert!(longer.iter().all(|(n, _)| (200..=880).contains(n)));
+        assert!(longer.iter().any(|(n, _)| *n > 256));
     }
 
     /// Where the count of a call ends, in words.
@@ -253,6 +272,6 @@ mod tests {
             *met.entry(end(&call)).or_insert(0) += 1;
         }
         assert_eq!(met.len(), 8, "{met:?}");
-        assert!(met.values().all(|count| *count >= KINDS.len()), "{met:?}");
+        assert!(met.values().all(|count| *count >= LONGER), "{met:?}");
     }
 }

@@ -241,8 +241,9 @@ pub const CRASHES: [(&str, Change); 2] = [
 pub type Count = fn(usize, &[u8]) -> Result<CrashCount, u8>;
 
 /// Wrong counts of crashes that document 02's K4 invites: those that end at a wrong place, then those that end rightly
-/// and tell it wrongly, then those that miss a crash, a part of t or a part of the table, and one that refuses.
-pub const ENDS: [(&str, Count); 20] = [
+/// and tell it wrongly, then those that miss a crash, a part of t or a part of the table, one that refuses, and those
+/// that answer in a byte.
+pub const ENDS: [(&str, Count); 22] = [
     ("the count ends one crash early", |t, crashes| {
         Ok(count_crashes(t.saturating_sub(1), crashes))
     }),
@@ -322,6 +323,12 @@ pub const ENDS: [(&str, Count); 20] = [
         } else {
             Ok(counted)
         }
+    }),
+    ("the count kept in a byte", |t, crashes| {
+        counted(t, crashes, |counted| counted.count %= 256)
+    }),
+    ("the process looked at kept in a byte", |t, crashes| {
+        counted(t, crashes, |counted| counted.looked_at %= 256)
     }),
 ];
 
@@ -696,7 +703,7 @@ mod tests {
     }
 
     /// The count and the last process looked at of each of the wrong counts, in their order; (7, 7) for refusal 7.
-    fn ends(t: usize, crashes: &[u8]) -> [(usize, usize); 20] {
+    fn ends(t: usize, crashes: &[u8]) -> [(usize, usize); 22] {
         ENDS.map(|(_, count)| match count(t, crashes) {
             Ok(counted) => (counted.count, counted.looked_at),
             Err(number) => (number.into(), number.into()),
@@ -758,5 +765,7 @@ mod tests {
         assert_eq!(wrong_ends(1 << 32, &[1, 1], (2, 2)), expected);
         let expected = [(3, (1, 1)), (10, (2, 3)), (16, (1, 1))];
         assert_eq!(wrong_ends(1 << 8, &[1, 1], (2, 2)), expected);
+        // The count ends at process 257.
+        assert_eq!(ends(256, &[1; 258])[20..], [(1, 257), (257, 1)]);
     }
 }
