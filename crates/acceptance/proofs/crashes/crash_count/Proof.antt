@@ -52,7 +52,7 @@ loop-again c =
     let here = c .before .before .before .before .loop in
     let t = a .t in
     let crashes = a .crashes .now in
-    let few : here .count ≤ t = leb-true _ _ (c .before .before .if1 .taken) in (
+    let few : here .count ≤ t = leb-true (here .count) t (c .before .before .if1 .taken) in (
       omega arith,
       counts-on t crashes _ _ _ (here .inv .1) (c .bit .ensures),
       goes-on t crashes _ _ _ (here .inv .1) (c .bit .ensures) (omega arith) few,
@@ -63,7 +63,7 @@ returns : tie.Need-returns Inv-loop μ-loop
 returns c =
     let a = c .before .before .before .before .args in
     let here = c .before .before .loop in
-    let many : a .t < here .count = leb-false _ _ (c .if1 .left) in
+    let many : a .t < here .count = leb-false (here .count) (a .t) (c .if1 .left) in
     let end : here .i ≡ lookedAt (a .t) (a .crashes .now) = elim (here .inv .2) [ inl few ↦ absurd (omega arith) | inr end ↦ end ] in
     (here .inv .1 ∙ counted-up-to (a .t) (a .crashes .now) (here .i) end, end)
 
