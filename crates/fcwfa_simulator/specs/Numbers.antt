@@ -9,7 +9,7 @@ use Rattle.schedule.specs.Schedule.{Schedule}
 use Rattle.schedule.specs.Counting.{lookedAt, crashesCounted}
 use Rattle.run.specs.Protocol.{fcwfa}
 use Rattle.run.specs.Report.{report}
-use Rattle.run.specs.Given.{GivenDemand3}
+use Rattle.run.specs.Given.{GivenPromises}
 use Rattle.simulator.specs.declared.Counts.{Counts}
 use Rattle.simulator.specs.Answers.{countsOf, simulateQuestion, decisionsAfter, roundsAfter, givenBy}
 
@@ -29,9 +29,9 @@ pub record CountsNumbers : Type 0 where
   -- in the heading's order, "f first last messages": those of case D
   pub in-order : countsNumbers (record { f = 1; first = 2; last = 3; messages = 37 }) ≡ 1 ∷ 2 ∷ 3 ∷ 37 ∷ []
 
--- Demand 3 of the numbers as given: wherever the call answers 0, with the counts and the two tables after the call.
-pub record NumbersKeepDemand3 (s : Schedule) (number : ℕ) (counts decisions rounds : List ℕ) : Type 0 where
-  pub kept : number ≡ 0 → GivenDemand3 s (givenBy (countsIn counts) decisions rounds)
+-- Demand 3 and the crashes so far of the numbers as given: wherever the call answers 0, with the counts and the two tables after the call.
+pub record NumbersKeepPromises (s : Schedule) (number : ℕ) (counts decisions rounds : List ℕ) : Type 0 where
+  pub kept : number ≡ 0 → GivenPromises s (givenBy (countsIn counts) decisions rounds)
 
 -- What the call promises of a schedule, the two answer tables and the place for the counts that it is lent: of the number that it answers, and of what
 -- stands in them after it.
@@ -40,7 +40,7 @@ pub record SimulatesNumbers (s : Schedule) (decisions rounds counts : List ℕ) 
   pub decisions-given : decisionsNow ≡ decisionsAfter fcwfa largest s decisions rounds
   pub rounds-given : roundsNow ≡ roundsAfter fcwfa largest s decisions rounds
   pub counts-given : countsNow ≡ placeAfter (simulateQuestion largest s decisions rounds) (countsNumbers (countsOf (report fcwfa s))) counts
-  pub demand-3 : NumbersKeepDemand3 s number countsNow decisionsNow roundsNow
+  pub promises : NumbersKeepPromises s number countsNow decisionsNow roundsNow
 
 -- "answer, beside the count, the number of the last process it looked at": of t and a table of crash rounds
 abbrev pub countedNumbers : ℕ → List ℕ → List ℕ

@@ -24,12 +24,12 @@ use Rattle.run.specs.Report.{report}
 use Rattle.text.specs.Forms.{Sizes}
 use Rattle.text.specs.Reading.{longest, onLine, sizesIn, scheduleIn, textQuestions, textAnswer}
 use Rattle.text.specs.Output.{reportText, refusalText, printed, outputOf}
-use Rattle.text.specs.Facts.{PrintsDemand3}
+use Rattle.text.specs.Facts.{PrintsPromises}
 use Rattle.text.proofs.Accepted as Text
 use Rattle.reader.specs.Answers.{givenOr, filled, readQuestions, readAnswer, tableAfter, votesAfter, crashesAfter, reachesAfter}
 use Rattle.output.specs.declared.Output.{Output}
 use Rattle.output.proofs.Buffer.{zeros-long}
-use Rattle.output.specs.Answers.{zeros, outputSize, outputIs, OutputKeepsDemand3}
+use Rattle.output.specs.Answers.{zeros, outputSize, outputIs, OutputKeepsPromises}
 
 same-schedule : {n t n′ t′ : ℕ} {v c m v′ c′ m′ : List ℕ} → n ≡ n′ → t ≡ t′ → v ≡ v′ → c ≡ c′ → m ≡ m′ → scheduleOf n t v c m ≡ scheduleOf n′ t′ v′ c′ m′
 same-schedule en et ev ec em = λ i. record { n = en i; t = et i; votes = ev i; crashes = ec i; reaches = em i }
@@ -116,9 +116,9 @@ counts written {r} e fits =
     (omega arith, sym (length-take-le (r .length) (r .bytes) (omega arith)))
 
 -- Demand 3 of the bytes that are answered.
-pub keeps-demand-3 : (text : List ℕ) (r : Output) → r ≡ outputIs (outputOf fcwfa text largest longest) → r .length ≤ outputSize → OutputKeepsDemand3 text r
-keeps-demand-3 text r e fits =
+pub keeps-promises : (text : List ℕ) (r : Output) → r ≡ outputIs (outputOf fcwfa text largest longest) → r .length ≤ outputSize → OutputKeepsPromises text r
+keeps-promises text r e fits =
     let written = outputOf fcwfa text largest longest in
     let long : r .length ≡ length written = ap (λ (x : Output). x .length) e in
     let bytes : take (r .length) (r .bytes) ≡ written = ap (λ (x : Output). take (x .length) (x .bytes)) e ∙ take-append-seam written (zeros (outputSize - length written)) in
-    record { kept = λ s h. subst (PrintsDemand3 s) (sym bytes) (Text.demand-3 text largest longest s h) }
+    record { kept = λ s h. subst (PrintsPromises s) (sym bytes) (Text.prints-promises text largest longest s h) }

@@ -7,7 +7,7 @@ use Rattle.laws.specs.Answer.{accepted}
 use Rattle.sets.specs.Largest.{largest}
 use Rattle.schedule.specs.Schedule.{Schedule}
 use Rattle.text.specs.Reading.{longest, textAnswer}
-use Rattle.text.specs.Facts.{PrintsDemand3}
+use Rattle.text.specs.Facts.{PrintsPromises}
 use Rattle.output.specs.declared.Output.{Output}
 
 -- so many zeros
@@ -22,6 +22,6 @@ outputSize = longest + 64
 abbrev pub outputIs : List ℕ → Output
 outputIs written = record { bytes = written ++ zeros (outputSize - length written); length = length written }
 
--- Demand 3 of what is printed: wherever the text is accepted, of the bytes that are answered.
-pub record OutputKeepsDemand3 (text : List ℕ) (r : Output) : Type 0 where
-  pub kept : (s : Schedule) → textAnswer text largest longest ≡ accepted s → PrintsDemand3 s (take (r .length) (r .bytes))
+-- Demand 3 and the crashes so far of what is printed: wherever the text is accepted, of the bytes that are answered.
+pub record OutputKeepsPromises (text : List ℕ) (r : Output) : Type 0 where
+  pub kept : (s : Schedule) → textAnswer text largest longest ≡ accepted s → PrintsPromises s (take (r .length) (r .bytes))

@@ -10,7 +10,7 @@ ghost use Rattle.sets.specs.Largest.{largest};
 ghost use Rattle.run.specs.Protocol.{fcwfa};
 ghost use Rattle.text.specs.Reading.{longest};
 ghost use Rattle.text.specs.Output.{outputOf};
-ghost use Rattle.output.specs.Answers.{outputIs, OutputKeepsDemand3};
+ghost use Rattle.output.specs.Answers.{outputIs, OutputKeepsPromises};
 use forms::LONGEST;
 use reader::Reading;
 use sets::zero_bytes;
@@ -30,7 +30,7 @@ pub struct Output {
 pub fn printed(text: &[u8]) -> Output
     ensures output { λ r. ⌜ r ≡ outputIs (outputOf fcwfa (now (text .entry)) largest longest) ⌝ }
     ensures fits { λ r. ⌜ Counts (r .length) (r .bytes) ⌝ }
-    ensures demand_3 { λ r. ⌜ OutputKeepsDemand3 (now (text .entry)) r ⌝ }
+    ensures promises { λ r. ⌜ OutputKeepsPromises (now (text .entry)) r ⌝ }
 {
     let mut votes = zero_bytes();
     let mut crashes = zero_bytes();

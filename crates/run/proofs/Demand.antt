@@ -1,29 +1,27 @@
--- Demand 3 holds of the run of every schedule that keeps the rules, for every n and t; and so does what is said there of the crashes so far.
--- Each part is what the files on votes, early decision, agreement and messages show of the run as plain numbers. Assumes nothing.
+-- Demand 3 holds of the run of every schedule that keeps the rules, for every n and t. Round B follows from the crashes so far; each other part is what
+-- the files on votes, agreement and messages show of the run as plain numbers. Assumes nothing.
 use mathlib.Core.Path.{_≡_, refl, ap, _∙_}
 use mathlib.Core.Logic.{inl, inr, _≢_}
-use Prim.Native.Nat.{ℕ, zero, suc, _+_, _-_, _*_, _≤_, _<_, min}
-use native.Mathlib.Nat.{le-trans, le-of-eq, mul-comm, mul-le-mul}
+use Prim.Native.Nat.{ℕ, suc, _-_, _*_, _≤_, _<_, min}
+use native.Mathlib.Nat.{eq-zero-or-pos, le-trans, le-of-eq, mul-comm, mul-le-mul}
 use native.Mathlib.Numerals.{add-one}
 use native.Mathlib.Omega.{arith}
-use lib.Dec.{leb}
-use borrow.Author.Tests.{leb-true, leb-false}
 use Rattle.laws.specs.Below.{sum}
-use Rattle.laws.proofs.Test.{true-or-false}
-use Rattle.schedule.specs.Schedule.{Schedule, crashedBy}
+use Rattle.schedule.specs.Schedule.{Schedule}
 use Rattle.schedule.specs.Questions.{Rules}
 use Rattle.run.specs.Protocol.{fcwfa}
 use Rattle.run.specs.Run.{stateAt, after, final}
 use Rattle.run.specs.Report.{messages, report}
-use Rattle.run.specs.Demand.{Decides, CompletesUndecided, roundB, mostMessages, Demand3}
-use Rattle.run.specs.Facts.{CrashesSoFar}
-use Rattle.run.proofs.World.{Plays, crashes}
-use Rattle.run.proofs.States.{stays, undecided}
-use Rattle.run.proofs.EarlyDecision.{LateEnough, crashes-so-far, by-round-b}
+use Rattle.run.specs.Demand.{Completes, Decides, CompletesUndecided, roundB, mostMessages, Demand3}
+use Rattle.run.specs.CrashesSoFar.{Nobody}
+use Rattle.run.proofs.World.{crashes}
+use Rattle.run.proofs.States.{stays}
 use Rattle.run.proofs.Votes.{abort, abort-2, commit-2}
 use Rattle.run.proofs.Agreement.{agreement}
 use Rattle.run.proofs.Messages.{bounded}
-use Rattle.run.proofs.CrashRounds.{alive, crashes-are, crashes-all}
+use Rattle.run.proofs.CrashRounds.{alive, living, crashes-all}
+use Rattle.run.proofs.CrashesSoFar.{by-crashes-so-far, last-round}
+use Rattle.run.proofs.RoundB.{round-b-follows}
 use Rattle.run.proofs.FcwfaMember.{Stands, behaves}
 use Rattle.run.proofs.RunWorld.{vote-is, sentOf, sent-high, sent-by}
 use Rattle.run.proofs.FcwfaRun.{runWorld, laws, rules}
@@ -57,20 +55,15 @@ module _ (s : Schedule) (ok : Rules s) where
   abbrev pub B : ℕ
   B = roundB f (s .t)
 
-  -- B = f + 2 is late enough if it is at most t, and so is f + 1 otherwise
-  pub late-enough : LateEnough (runWorld s) B
-  unfolding roundB
-  late-enough =
-      let all = crashes-all s ok in
-      let few = ok .few in
-      let tl = ok .t-low in
-      elim (true-or-false (leb f (s .t - 2))) [
-        | inl e ↦
-            let h = leb-true f (s .t - 2) e in
-            rw e (record { low = omega arith; high = omega arith; before-t = λ b. omega arith; at-t = λ b. omega arith })
-        | inr e ↦
-            let h = leb-false f (s .t - 2) e in
-            rw e (record { low = omega arith; high = omega arith; before-t = λ b. omega arith; at-t = λ b. omega arith })
+  pub nobody-by-b : Nobody (CompletesUndecided fcwfa s) B
+  nobody-by-b = round-b-follows s (CompletesUndecided fcwfa s) (by-crashes-so-far s ok) (last-round s ok) (ok .few)
+
+  -- so whoever completes round B has decided by then
+  pub by-round-b : (i : ℕ) → Completes s B i → 0 < after fcwfa s B i .decided
+  by-round-b i c =
+      elim (eq-zero-or-pos (after fcwfa s B i .decided)) [
+        | inl z ↦ absurd (nobody-by-b i (record { completes-it = c; undecided = z }))
+        | inr p ↦ p
       ]
 
   messages-are : report fcwfa s .messages ≡ sum (suc (s .t)) (λ r. sum (s .n) (sentOf fcwfa 1 Stands behaves s r))
@@ -84,8 +77,9 @@ module _ (s : Schedule) (ok : Rules s) where
   messages-high =
       rw (mul-comm (s .n) (s .n - 1))
       (le-trans (le-of-eq messages-are)
-      (bounded (runWorld s) (laws s ok) (rules s ok) (s .n - 1) (sentOf fcwfa 1 Stands behaves s)
-      (λ r j _. sent-high fcwfa 1 Stands behaves s ok r j) (sent-by fcwfa 1 Stands behaves s) B late-enough))
+      (bounded (runWorld s) (laws s ok) (s .n - 1) (sentOf fcwfa 1 Stands behaves s)
+      (λ r j _. sent-high fcwfa 1 Stands behaves s ok r j) (sent-by fcwfa 1 Stands behaves s) B
+      (λ i l a. by-round-b i (record { process = l; completed = living s B i a }))))
 
   within-bound : report fcwfa s .messages ≤ mostMessages (s .n) (s .t) f
   unfolding mostMessages
@@ -105,11 +99,7 @@ module _ (s : Schedule) (ok : Rules s) where
         let vote = vote-is fcwfa 1 Stands behaves s (z .voter) (z .process) ∙ z .vote in
         let g = abort (runWorld s) (laws s ok) (rules s ok) (z .voter) (z .process) vote i (a .process) (y .0) in
         omega arith;
-    round-b = λ i h.
-        let c = h .completes-it in
-        let u = h .undecided in
-        let g = by-round-b (runWorld s) (laws s ok) (rules s ok) B i late-enough (c .process) (alive s B i (late-enough .high) (c .completed)) in
-        omega arith;
+    round-b = nobody-by-b;
     message-bound = within-bound;
     weak-fast-abort = λ z i h.
         let tl = ok .t-low in
@@ -122,21 +112,4 @@ module _ (s : Schedule) (ok : Rules s) where
         let no-crash : crashes (runWorld s) (suc (s .t)) ≡ 0 = omega arith in
         let g = commit-2 (runWorld s) (laws s ok) (rules s ok) (λ j jl. vote-is fcwfa 1 Stands behaves s j jl ∙ all j jl) no-crash i l in
         lasts i 1 2 l (omega arith) (omega arith) (g .0) (g .1);
-  }
-
-  so-far : (r i : ℕ) → 2 ≤ r → r ≤ s .t → CompletesUndecided fcwfa s r i → (r < s .t → r ≤ crashedBy s r + 1) × (r ≡ s .t → s .t ≤ crashedBy s r)
-  so-far zero i p rt h = absurd (omega arith)
-  so-far (suc r) i p rt h =
-      let l = h .completes-it .process in
-      let a = alive s (suc r) i (omega arith) (h .completes-it .completed) in
-      let before = undecided (runWorld s) (laws s ok) r (suc r) i (omega arith) (omega arith) l (h .undecided) in
-      let o : Plays (runWorld s) r i = record { time = omega arith; process = l; alive = a; undecided = before } in
-      let e = crashes-are s (suc r) (omega arith) in
-      let k = crashes-so-far (runWorld s) (laws s ok) (rules s ok) r i o (omega arith) (h .undecided) in
-      ((λ b. let y = k .early b in omega arith), (λ b. let y = k .round-t b in omega arith))
-
-  pub by-crashes-so-far : CrashesSoFar s
-  by-crashes-so-far = record {
-    early = λ r i p rt h. let y = so-far r i p (omega arith) h .0 (omega arith) in omega arith;
-    round-t = λ i h. let tl = ok .t-low in so-far (s .t) i (omega arith) (omega arith) h .1 refl;
   }

@@ -1,5 +1,5 @@
 -- Early decision. Whoever completes a round undecided was told nothing, so it has too few estimates for the round's rule; and whoever it has no
--- estimate from has crashed. So a round that ends undecided has seen about as many crashes as rounds, and round B cannot. Assumes nothing.
+-- estimate from has crashed. So a round that ends undecided has seen about as many crashes as rounds, and the last round never does. Assumes nothing.
 use mathlib.Core.Path.{_≡_}
 use mathlib.Core.Logic.{inl, inr}
 use mathlib.Core.Bool.{not}
@@ -16,14 +16,6 @@ use Rattle.run.proofs.States.{Way, way, stays-put, told, not-told, unde
 
 module _ (w : World) where
   open World w using (n, t, start, crash, estimate, decided, code)
-
-  -- a round B by which every process that completes it has decided: by the crashes so far, the crashes of the run are too few for it to end
-  -- undecided before round t, or in round t; and round t + 1 never does
-  pub record LateEnough (B : ℕ) : Type 0 where
-    pub low : 2 ≤ B
-    pub high : B ≤ suc t
-    pub before-t : B < t → crashes w (suc t) + 2 ≤ B
-    pub at-t : B ≡ t → crashes w (suc t) < t
 
   -- what the crashes by round r + 1 are where some process completes it undecided
   pub record EndsUndecided (r : ℕ) : Type 0 where
@@ -58,22 +50,3 @@ module _ (w : World) where
                     round-t = λ b. let x = h .not-count b in omega arith;
                   }
             ]
-
-    pub by-round-b : (B i : ℕ) → LateEnough B → i < n → B < crash i → 0 < decided B i
-    by-round-b zero i h l a = absurd (let lo = h .low in omega arith)
-    by-round-b (suc r) i h l a =
-        elim (eq-zero-or-pos (decided (suc r) i)) [
-          | inr p ↦ p
-          | inl u ↦
-              let lo = h .low in
-              let hi = h .high in
-              let before = undecided w laws r (suc r) i (omega arith) (omega arith) l u in
-              let o : Plays w r i = record { time = omega arith; process = l; alive = a; undecided = before } in
-              let k = crashes-so-far r i o (omega arith) u in
-              let more = crashes-mono w (suc r) (suc t) (omega arith) in
-              let rt = k .not-last in
-              absurd (elim (split t (suc r)) [
-                | inl b ↦ let y = k .round-t (omega arith) in let z = h .at-t (omega arith) in omega arith
-                | inr b ↦ let y = k .early b in let z = h .before-t b in omega arith
-              ])
-        ]

@@ -1,8 +1,8 @@
--- Demand 3 of what is given: the tables hold what each process decides, and whoever does not complete round B undecided has decided by it, since a
--- decision stays and is never made later than the round after which it stands. Assumes nothing.
-use mathlib.Core.Path.{refl, sym, ap, _∙_}
-use mathlib.Core.Logic.{inl, inr}
-use Prim.Native.Nat.{ℕ, suc, _≤_, _<_}
+-- What is promised of what is given: the tables hold what each process decides, and whoever does not complete a round undecided is given a decision by
+-- then, since a decision stays and is never made later than the round after which it stands. Assumes nothing.
+use mathlib.Core.Path.{_≡_, refl, sym, ap, _∙_}
+use mathlib.Core.Logic.{inl, inr, _≢_}
+use Prim.Native.Nat.{ℕ, suc, _+_, _≤_, _<_}
 use native.Mathlib.Nat.{eq-zero-or-pos}
 use native.Mathlib.Omega.{arith}
 use Rattle.schedule.specs.Schedule.{Schedule}
@@ -10,11 +10,14 @@ use Rattle.schedule.specs.Questions.{Rules}
 use Rattle.run.specs.Protocol.{fcwfa}
 use Rattle.run.specs.Run.{stateAt, after, final}
 use Rattle.run.specs.Report.{report}
-use Rattle.run.specs.Demand.{Decides}
-use Rattle.run.specs.Given.{Gives, GivesBy, GivenDemand3}
+use Rattle.run.specs.Demand.{Decides, CompletesUndecided}
+use Rattle.run.specs.CrashesSoFar.{CrashesSoFar, LastRound}
+use Rattle.run.specs.Given.{Gives, GivesBy, GivenNoneBy, GivenDemand3, GivenPromises}
 use Rattle.run.proofs.States.{range, stays}
 use Rattle.run.proofs.FcwfaRun.{runWorld, laws}
-use Rattle.run.proofs.Demand.{B, late-enough, end-is, demand-3}
+use Rattle.run.proofs.CrashesSoFar.{by-crashes-so-far, last-round}
+use Rattle.run.proofs.RoundB.{b-high, settles-follows}
+use Rattle.run.proofs.Demand.{B, by-round-b, end-is, demand-3}
 use Rattle.run.proofs.Reported.{reported}
 
 module _ (s : Schedule) (ok : Rules s) where
@@ -40,18 +43,46 @@ module _ (s : Schedule) (ok : Rules s) where
             record { value = _; in-round = _; gives = gives _ _ _ d; by = omega arith }
       ]
 
-  pub given-demand-3 : GivenDemand3 s (report fcwfa s)
+  given-demand-3 : GivenDemand3 s (report fcwfa s)
   given-demand-3 =
       let d = demand-3 s ok in
       record {
         agreement = λ i k v x q r g h. d .agreement i k v x q r (decides i v q g) (decides k x r h);
         abort-validity = λ z i v r g. d .abort-validity z i v r (decides i v r g);
-        round-b = λ i c.
-            elim (eq-zero-or-pos (after fcwfa s (B s ok) i .decided)) [
-              | inl z ↦ absurd (d .round-b i (record { completes-it = c; undecided = z }))
-              | inr p ↦ by-round (B s ok) i (late-enough s ok .high) (c .process) p
-            ];
+        round-b = λ i c. by-round (B s ok) i (let h = b-high s (ok .few) in omega arith) (c .process) (by-round-b s ok i c);
         message-bound = d .message-bound;
         weak-fast-abort = λ z i c. gives i 0 2 (d .weak-fast-abort z i c);
         fast-commit = λ all none i l. gives i 1 2 (d .fast-commit all (omega arith) i l);
       }
+
+  -- whoever completes a round of the run and is given no decision by then completes it undecided
+  none-by : (r i : ℕ) → r ≤ suc (s .t) → GivenNoneBy s (report fcwfa s) r i → CompletesUndecided fcwfa s r i
+  none-by r i high g =
+      elim (eq-zero-or-pos (after fcwfa s r i .decided)) [
+        | inl z ↦ record { completes-it = g .completes-it; undecided = z }
+        | inr p ↦
+            let b = by-round r i high (g .completes-it .process) p in
+            let x = b .gives .round in
+            let y : b .in-round ≢ 0 = b .gives .not-none in
+            let z = b .by in
+            absurd (elim (g .none-by) [ inl none ↦ omega arith | inr later ↦ omega arith ])
+      ]
+
+  given-so-far : CrashesSoFar s (GivenNoneBy s (report fcwfa s))
+  given-so-far =
+      let k = by-crashes-so-far s ok in
+      record {
+        early = λ r i low high g. k .early r i low high (none-by r i (omega arith) g);
+        round-t = λ i g. k .round-t i (none-by (s .t) i (omega arith) g);
+      }
+
+  given-last : LastRound s (GivenNoneBy s (report fcwfa s))
+  given-last i g = last-round s ok i (none-by (s .t + 1) i (omega arith) g)
+
+  pub given-promises : GivenPromises s (report fcwfa s)
+  given-promises = record {
+    demand-3 = given-demand-3;
+    crashes-so-far = given-so-far;
+    last-round = given-last;
+    settles = settles-follows s (GivenNoneBy s (report fcwfa s)) given-so-far given-last (ok .few);
+  }

@@ -15,6 +15,9 @@ pub mod Rounds
 pub mod CrashRounds
 pub mod RunWorld
 pub mod FcwfaRun
+pub mod Settling
+pub mod CrashesSoFar
+pub mod RoundB
 pub mod Demand
 pub mod Reported
 pub mod Given

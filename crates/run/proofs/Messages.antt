@@ -1,5 +1,5 @@
--- Messages. One sender adds at most x in a round, so a round has at most x × n; and after round B + 1 nobody speaks, since all who are left
--- decided by round B and said so in the round after. Assumes nothing.
+-- Messages. One sender adds at most x in a round, so a round has at most x × n; and where all who complete round B have decided by then, nobody speaks
+-- after round B + 1, since they said so in the round after their decision. Assumes nothing.
 use mathlib.Core.Path.{_≡_}
 use mathlib.Core.Logic.{_⊎_, inl, inr}
 use Prim.Native.Nat.{ℕ, suc, _*_, _≤_, _<_, min}
@@ -7,18 +7,17 @@ use native.Mathlib.Nat.{eq-zero-or-pos}
 use native.Mathlib.Omega.{arith}
 use Rattle.laws.specs.Below.{sum}
 use Rattle.laws.proofs.Sums.{sum-zero, sum-high, sum-until}
-use Rattle.run.proofs.World.{World, RoundLaws, DecisionRules}
+use Rattle.run.proofs.World.{World, RoundLaws}
 use Rattle.run.proofs.States.{range, stays}
-use Rattle.run.proofs.EarlyDecision.{LateEnough, by-round-b}
 
 module _ (w : World) where
   open World w using (n, t, start, crash, estimate, decided, code)
 
-  module _ (laws : RoundLaws w) (rules : DecisionRules w) where
+  module _ (laws : RoundLaws w) where
     module _ (x : ℕ) (m : ℕ → ℕ → ℕ) (small : (r j : ℕ) → r ≤ t → j < n → m r j ≤ x)
         (real : (r j : ℕ) → r ≤ t → j < n → 0 < m r j → (r < crash j) × ((decided r j ≡ 0) ⊎ (decided r j ≡ r))) where
-      pub bounded : (B : ℕ) → LateEnough w B → sum (suc t) (λ r. sum n (m r)) ≤ x * n * min (suc B) (suc t)
-      bounded B h =
+      pub bounded : (B : ℕ) → ((i : ℕ) → i < n → B < crash i → 0 < decided B i) → sum (suc t) (λ r. sum n (m r)) ≤ x * n * min (suc B) (suc t)
+      bounded B by-b =
           sum-until (suc t) (suc B) (x * n) (λ r. sum n (m r)) (λ r rl. sum-high n x (m r) (λ j jl. small r j (omega arith) jl))
           (λ r rl br. sum-zero n (m r) (λ j jl. silence r j (omega arith) br jl))
         where
@@ -28,7 +27,7 @@ module _ (w : World) where
                 | inl z ↦ z
                 | inr p ↦
                     let g = real r j rt jl p in
-                    let d = by-round-b w laws rules B j h jl (omega (arith, g .0)) in
+                    let d = by-b j jl (omega (arith, g .0)) in
                     let s = stays w laws B r j (omega arith) (omega arith) jl d in
                     absurd (elim (range w laws B (omega arith) j jl) [
                       | inl z ↦ omega arith

@@ -8,14 +8,17 @@ use Rattle.schedule.specs.Schedule.{Schedule}
 use Rattle.schedule.specs.Questions.{question}
 use Rattle.schedule.proofs.Accepted.{question-accepted}
 use Rattle.run.specs.Protocol.{fcwfa}
+use Rattle.run.specs.Demand.{CompletesUndecided}
 use Rattle.run.specs.Facts.{Conditions, RunPromises}
 use Rattle.run.proofs.Rounds.{completes-if}
-use Rattle.run.proofs.Demand.{demand-3, by-crashes-so-far}
+use Rattle.run.proofs.CrashesSoFar.{by-crashes-so-far, last-round}
+use Rattle.run.proofs.RoundB.{settles-follows}
+use Rattle.run.proofs.Demand.{demand-3}
 use Rattle.run.proofs.Deciders.{deciders}
 use Rattle.run.proofs.Reported.{reported}
 use Rattle.run.proofs.NoneRefused.{none-refused}
 use Rattle.run.proofs.OwnAnswers.{own-answers}
-use Rattle.run.proofs.Given.{given-demand-3}
+use Rattle.run.proofs.Given.{given-promises}
 use Rattle.run.proofs.Silence.{silent-from, mute-stops}
 
 -- the conditions of demand 3 are what document 01 has them be
@@ -33,10 +36,12 @@ accepted-run s limit answers e =
       demand-3 = demand-3 s (a .rules);
       conditions = conditions s;
       crashes-so-far = by-crashes-so-far s (a .rules);
+      last-round = last-round s (a .rules);
+      settles = settles-follows s (CompletesUndecided fcwfa s) (by-crashes-so-far s (a .rules)) (last-round s (a .rules)) (a .rules .few);
       reported = reported s (a .rules);
       deciders = deciders s (a .rules);
       none-refused = none-refused s (a .rules) limit (a .n-high);
       own-answers = own-answers fcwfa limit s (none-refused s (a .rules) limit (a .n-high));
       silence = let low = a .n-low in silent-from fcwfa s (omega arith) mute-stops;
-      given-demand-3 = given-demand-3 s (a .rules);
+      given = given-promises s (a .rules);
     }

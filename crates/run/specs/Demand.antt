@@ -28,9 +28,9 @@ module _ (P : Protocol) (s : Schedule) where
     pub completes-it : Completes s r i
     pub undecided : after P s r i .decided ≡ 0
 
--- round B of f crashes of t allowed: "B = f + 2 if f ≤ t − 2 and f + 1 otherwise"
+-- round B of f crashes of t allowed: "B = f + 2 if f ≤ t − 2 and f + 1 otherwise"; f ≤ t − 2 is asked as f + 2 ≤ t, so that it has no t below 2
 unfoldable pub roundB : ℕ → ℕ → ℕ
-roundB f t = cond (leb f (t - 2)) (f + 2) (f + 1)
+roundB f t = cond (leb (f + 2) t) (f + 2) (f + 1)
 
 -- the most messages of n processes with f crashes of t allowed: "n × (n − 1) × the smaller of B + 1 and t + 1"
 unfoldable pub mostMessages : ℕ → ℕ → ℕ → ℕ

@@ -15,7 +15,8 @@ use Rattle.run.specs.Protocol.{Protocol, fcwfa, byCalls}
 use Rattle.run.specs.Run.{stateAt, codeHeard, rowOf, statesAfter, after, final}
 use Rattle.run.specs.Report.{roundOf, before, sent, sentAfter, report}
 use Rattle.run.specs.Demand.{Completes, Decides, CompletesUndecided, SomeVotedZero, Demand3}
-use Rattle.run.specs.Given.{GivenDemand3}
+use Rattle.run.specs.CrashesSoFar.{CrashesSoFar, LastRound, Settles}
+use Rattle.run.specs.Given.{GivenPromises}
 
 module _ (P : Protocol) (s : Schedule) where
   -- Who hears whom in round r, whatever the states at its start: what i hears from j.
@@ -57,11 +58,6 @@ pub record Conditions (s : Schedule) : Type 0 where
   pub voted-zero : (k : ℕ) → k < s .n → voteOf s k ≡ 0 → SomeVotedZero s
   pub completes-always : (r i : ℕ) → i < s .n → crashOf s i ≡ 0 → Completes s r i
   pub completes-until : (r i : ℕ) → i < s .n → r < crashOf s i → Completes s r i
-
--- By the crashes so far: a process that completes round r undecided has this many processes with crash rounds from 1 to r. Round B follows.
-pub record CrashesSoFar (s : Schedule) : Type 0 where
-  pub early : (r i : ℕ) → 2 ≤ r → r ≤ s .t - 1 → CompletesUndecided fcwfa s r i → r - 1 ≤ crashedBy s r
-  pub round-t : (i : ℕ) → CompletesUndecided fcwfa s (s .t) i → s .t ≤ crashedBy s (s .t)
 
 -- The reported f is the number of processes with crash rounds from 1 to t + 1. The reported decisions and rounds are those that the processes
 -- decide, and 2 and 0 for one that does not; so whatever demand 3 says of deciding holds of the report's two tables.
@@ -123,7 +119,10 @@ pub record OwnAnswers (P : Protocol) (limit : ℕ) (s : Schedule) : Type 0 where
 pub record RunPromises (limit : ℕ) (s : Schedule) : Type 0 where
   pub demand-3 : Demand3 s
   pub conditions : Conditions s
-  pub crashes-so-far : CrashesSoFar s
+  -- by the crashes so far: what a process that completes round r undecided tells of the crashes, and in which round all have decided for that reason
+  pub crashes-so-far : CrashesSoFar s (CompletesUndecided fcwfa s)
+  pub last-round : LastRound s (CompletesUndecided fcwfa s)
+  pub settles : Settles s (CompletesUndecided fcwfa s)
   pub reported : Reported s
   pub deciders : Deciders s
   pub none-refused : NoneRefused fcwfa limit s
@@ -131,5 +130,5 @@ pub record RunPromises (limit : ℕ) (s : Schedule) : Type 0 where
   -- A round in which nothing is sent is followed by nothing else, so a run may end there: n is at least 4, so a completing sender that says something
   -- adds at least 3.
   pub silence : (r : ℕ) → sentAfter fcwfa s r ≡ 0 → SilentFrom fcwfa s r
-  -- demand 3 of the report itself, on its counts and its tables
-  pub given-demand-3 : GivenDemand3 s (report fcwfa s)
+  -- demand 3 and the crashes so far of the report itself, on its counts and its tables
+  pub given : GivenPromises s (report fcwfa s)

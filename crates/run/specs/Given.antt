@@ -1,12 +1,13 @@
--- Demand 3 of what the bench gives for a schedule, on its counts and its two tables alone. Proved in proofs/Given.antt:
--- `given-demand-3 : (s : Schedule) → Rules s → GivenDemand3 s (report fcwfa s)`. Assumes nothing.
+-- What is promised of what the bench gives for a schedule, on its counts and its two tables alone: demand 3, and the crashes so far. Proved in
+-- proofs/Given.antt: `given-promises : (s : Schedule) → Rules s → GivenPromises s (report fcwfa s)`. Assumes nothing.
 use Prim.Native.Nat.{ℕ, _≤_, _<_}
 use mathlib.Core.Path.{_≡_}
-use mathlib.Core.Logic.{_≢_}
+use mathlib.Core.Logic.{_⊎_, _≢_}
 use lib.ListN.{getD}
 use Rattle.schedule.specs.Schedule.{Schedule, voteOf}
 use Rattle.run.specs.Report.{Report}
 use Rattle.run.specs.Demand.{Completes, roundB, mostMessages, SomeVotedZero}
+use Rattle.run.specs.CrashesSoFar.{CrashesSoFar, LastRound, Settles}
 
 module _ (s : Schedule) (given : Report) where
   -- the tables give process i the decision v, in round r, not 0
@@ -22,6 +23,11 @@ module _ (s : Schedule) (given : Report) where
     pub in-round : ℕ
     pub gives : Gives i value in-round
     pub by : in-round ≤ b
+
+  -- process i completes round r, and they give it no decision by then: its round is 0 or above r
+  pub record GivenNoneBy (r i : ℕ) : Type 0 where
+    pub completes-it : Completes s r i
+    pub none-by : (getD (given .rounds) i 0 ≡ 0) ⊎ (r < getD (given .rounds) i 0)
 
   -- round B by the count f that is given
   abbrev pub givenB : ℕ
@@ -40,3 +46,11 @@ module _ (s : Schedule) (given : Report) where
     pub weak-fast-abort : SomeVotedZero s → (i : ℕ) → Completes s 2 i → Gives i 0 2
     -- if all votes are 1 and the f that is given is 0, every process is given 1 in round 2
     pub fast-commit : ((k : ℕ) → k < s .n → voteOf s k ≡ 1) → given .f ≡ 0 → (i : ℕ) → i < s .n → Gives i 1 2
+
+  pub record GivenPromises : Type 0 where
+    pub demand-3 : GivenDemand3
+    -- a process that completes round r and is given no decision by then has that many processes with crash rounds from 1 to r
+    pub crashes-so-far : CrashesSoFar s GivenNoneBy
+    -- every process that completes round t + 1 is given a decision by then, and so is every one that completes the settling round
+    pub last-round : LastRound s GivenNoneBy
+    pub settles : Settles s GivenNoneBy

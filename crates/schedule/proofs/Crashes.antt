@@ -1,16 +1,24 @@
--- f counts the processes that crash in rounds 1 to t + 1, since there are no other crash rounds but 0. Assumes nothing.
+-- The crashes by a round are among those that f counts; and f counts the processes that crash in rounds 1 to t + 1, since there are no other crash
+-- rounds but 0. Assumes nothing.
 use mathlib.Core.Path.{_≡_, sym, ap, _∙_}
 use mathlib.Core.Logic.{inl, inr}
 use mathlib.Core.Bool.{not}
-use Prim.Native.Nat.{ℕ, _+_, _<_}
+use Prim.Native.Nat.{ℕ, _+_, _≤_, _<_}
 use native.Mathlib.Nat.{eq-zero-or-pos}
 use native.Mathlib.Omega.{arith}
 use borrow.Author.Tests.{eq-eqb, ne-eqb}
 use Rattle.laws.specs.Test.{within}
-use Rattle.laws.proofs.Test.{within-is, within-not-low}
-use Rattle.laws.proofs.Counting.{count-same}
+use Rattle.laws.proofs.Test.{within-low, within-is, within-not-low}
+use Rattle.laws.proofs.Counting.{count-mono, count-same}
 use Rattle.schedule.specs.Schedule.{Schedule, crashOf, everCrashes, crashesIn, crashCount, crashedBy}
 use Rattle.schedule.specs.Questions.{Rules}
+
+-- a process with a crash round from 1 to r crashes
+pub crashed-within : (s : Schedule) (r : ℕ) → crashedBy s r ≤ crashCount s
+unfolding crashedBy crashesIn
+crashed-within s r =
+    count-mono (s .n) (λ i. within 1 (crashOf s i) r) (λ i. everCrashes (crashOf s i)) (λ i _ e.
+    ap not (ne-eqb (crashOf s i) 0 (λ z. let low = within-low 1 (crashOf s i) r e in omega arith)))
 
 module _ (s : Schedule) (ok : Rules s) where
   counted-once : (i : ℕ) → i < s .n → within 1 (crashOf s i) (s .t + 1) ≡ everCrashes (crashOf s i)

@@ -21,7 +21,7 @@ use Rattle.schedule.proofs.Counting.{f-counted}
 use Rattle.run.specs.Protocol.{Protocol, fcwfa, nobody}
 use Rattle.run.specs.Run.{stateAt, final}
 use Rattle.run.specs.Report.{roundOf, decisionOf, firstOf, lastOf, messages, report}
-use Rattle.run.specs.Given.{GivenDemand3}
+use Rattle.run.specs.Given.{GivenPromises}
 use Rattle.run.proofs.Reported.{rounds-read}
 use Rattle.run.proofs.Theorem.{accepted-run}
 use Rattle.execution.specs.declared.Ran.{Ran}
@@ -29,7 +29,7 @@ use Rattle.execution.specs.Rounds.{noMembers}
 use Rattle.execution.specs.Ran.{membersAfter, messagesAfter, ranOf}
 use Rattle.simulator.specs.declared.Counts.{Counts}
 use Rattle.simulator.specs.declared.Simulated.the-variants.{Completed, Refused}
-use Rattle.simulator.specs.Answers.{simulatedIs, countsOf, simulateQuestion, simulateAnswer, decisionsAfter, roundsAfter, givenBy, AnswersKeepDemand3}
+use Rattle.simulator.specs.Answers.{simulatedIs, countsOf, simulateQuestion, simulateAnswer, decisionsAfter, roundsAfter, givenBy, AnswersKeepPromises}
 
 -- A call for which the rounds leave `ran`.
 module _ (P : Protocol) (s : Schedule) (decisions rounds : List ℕ) {ran : Ran}
@@ -48,7 +48,7 @@ module _ (P : Protocol) (s : Schedule) (decisions rounds : List ℕ) {ran : Ran}
     pub kept-table : (given lent : List ℕ) → lent ≡ placeAfter (simulateQuestion largest s decisions rounds) given lent
     kept-table given lent = sym (place-kept _ given lent refusing)
 
-    pub refused-keeps : AnswersKeepDemand3 s (Refused (ran .question)) decisions rounds
+    pub refused-keeps : AnswersKeepPromises s (Refused (ran .question)) decisions rounds
     refused-keeps = record { kept = λ counts e. absurd (not-accepted e) }
 
   module _ (yes? : ran .question ≡ 0) where
@@ -159,6 +159,6 @@ module _ (P : Protocol) (s : Schedule) (decisions rounds : List ℕ) {ran : Ran}
 
 -- and demand 3 holds of the report of FCWFA
 pub completed-keeps : (s : Schedule) (answers : Bool) {c : Counts} {decisions rounds : List ℕ} → question s largest answers ≡ 0
-    → ((k : Counts) → simulatedIs (Completed c) ≡ accepted k → givenBy k decisions rounds ≡ report fcwfa s) → AnswersKeepDemand3 s (Completed c) decisions rounds
+    → ((k : Counts) → simulatedIs (Completed c) ≡ accepted k → givenBy k decisions rounds ≡ report fcwfa s) → AnswersKeepPromises s (Completed c) decisions rounds
 completed-keeps s answers passed is =
-    record { kept = λ k e. subst (GivenDemand3 s) (sym (is k e)) (accepted-run s largest answers passed .given-demand-3) }
+    record { kept = λ k e. subst (GivenPromises s) (sym (is k e)) (accepted-run s largest answers passed .given) }

@@ -9,7 +9,7 @@ use Rattle.schedule.specs.Schedule.{Schedule}
 use Rattle.schedule.specs.Questions.{answersOf, question}
 use Rattle.run.specs.Protocol.{Protocol, fcwfa}
 use Rattle.run.specs.Report.{Report, report}
-use Rattle.run.specs.Given.{GivenDemand3}
+use Rattle.run.specs.Given.{GivenPromises}
 use Rattle.simulator.specs.declared.Counts.{Counts}
 use Rattle.simulator.specs.declared.Simulated.{Simulated}
 use Rattle.simulator.specs.declared.Simulated.the-variants.{Completed, Refused}
@@ -52,13 +52,13 @@ givenBy counts decisions rounds = record {
   rounds = rounds;
 }
 
--- Demand 3 of the answers as given: wherever the answer is one of counts, with those counts and the two tables after the call.
-pub record AnswersKeepDemand3 (s : Schedule) (r : Simulated) (decisions rounds : List ℕ) : Type 0 where
-  pub kept : (counts : Counts) → simulatedIs r ≡ accepted counts → GivenDemand3 s (givenBy counts decisions rounds)
+-- Demand 3 and the crashes so far of the answers as given: wherever the answer is one of counts, with those counts and the two tables after the call.
+pub record AnswersKeepPromises (s : Schedule) (r : Simulated) (decisions rounds : List ℕ) : Type 0 where
+  pub kept : (counts : Counts) → simulatedIs r ≡ accepted counts → GivenPromises s (givenBy counts decisions rounds)
 
 -- What the call promises: of its answer, and of the two tables after it.
 pub record Simulates (s : Schedule) (decisions rounds : List ℕ) (r : Simulated) (decisionsNow roundsNow : List ℕ) : Type 0 where
   pub answered : simulatedIs r ≡ simulateAnswer fcwfa largest s decisions rounds
   pub decisions-given : decisionsNow ≡ decisionsAfter fcwfa largest s decisions rounds
   pub rounds-given : roundsNow ≡ roundsAfter fcwfa largest s decisions rounds
-  pub demand-3 : AnswersKeepDemand3 s r decisionsNow roundsNow
+  pub promises : AnswersKeepPromises s r decisionsNow roundsNow

@@ -24,7 +24,7 @@ use Rattle.run.proofs.Theorem.{accepted-run}
 use Rattle.text.specs.Forms.{sizesHeading, processesHeading, sizesAt, entryAt}
 use Rattle.text.specs.Reading.{isFound, onLine, sizesIn, scheduleIn, entryQuestions, headQuestions, tailQuestions, restQuestions, textQuestions, textAnswer}
 use Rattle.text.specs.Output.{printed, outputOf}
-use Rattle.text.specs.Facts.{PrintsDemand3}
+use Rattle.text.specs.Facts.{PrintsPromises}
 
 -- The questions of one line: they come to 0, or the refusal has that line.
 pub line-passed : (k q : ℕ) → onLine k q ≡ accepted tt → q ≡ 0
@@ -186,12 +186,12 @@ module _ (text : List ℕ) where
         let both = text-passed s e in
         subst (λ (x : Schedule). question x limit true ≡ 0) (both .1) (passed-question (both .0))
 
-    pub demand-3 : (s : Schedule) → textAnswer text limit most ≡ accepted s → PrintsDemand3 s (outputOf fcwfa text limit most)
+    pub prints-promises : (s : Schedule) → textAnswer text limit most ≡ accepted s → PrintsPromises s (outputOf fcwfa text limit most)
     unfolding outputOf
-    demand-3 s e = record {
+    prints-promises s e = record {
       given = _;
       prints = ap (printed fcwfa text) e;
-      demand-3 = accepted-run s limit true (accepted-schedule s e) .given-demand-3;
+      promises = accepted-run s limit true (accepted-schedule s e) .given;
     }
 
     -- the refusal is that of one of the questions, and each has a line up to n + 4

@@ -13,8 +13,8 @@ use Rattle.run.specs.Protocol.{Protocol}
 use Rattle.run.specs.Report.{Report, report}
 use Rattle.text.specs.Reading.{longest, textAnswer}
 use Rattle.text.specs.Output.{reportText, refusalText, printed, outputOf}
-use Rattle.text.specs.Facts.{SaysTheSame, TextPromises, OutputPromises, OutputDemand3, AllReadBack}
-use Rattle.text.proofs.Accepted.{accepted-schedule, line-bound, line-short, demand-3}
+use Rattle.text.specs.Facts.{SaysTheSame, TextPromises, OutputPromises, PromisesPrinted, AllReadBack}
+use Rattle.text.proofs.Accepted.{accepted-schedule, line-bound, line-short, prints-promises}
 use Rattle.text.proofs.Inverse.{written}
 use Rattle.text.proofs.ReadBack.{reads-back}
 use Rattle.text.proofs.Sizes.{text-short}
@@ -48,8 +48,8 @@ module _ (P : Protocol) (limit most : ℕ) where
     refusal-says = λ text number k e m j line h. one-refusal number k (lineOf k text) m j line (sym (refusal-printed text number k e) ∙ h);
   }
 
-pub output-demand-3 : (limit most : ℕ) → OutputDemand3 limit most
-output-demand-3 limit most = record { demand-3 = λ text s. demand-3 text limit most s }
+pub promises-printed : (limit most : ℕ) → PromisesPrinted limit most
+promises-printed limit most = record { printed = λ text s. prints-promises text limit most s }
 
 pub all-read-back : AllReadBack
 all-read-back s e = reads-back largest longest (omega arith) s e (text-short s (question-accepted s largest true e))

@@ -1,7 +1,7 @@
 -- What holds of reading and of what is printed. Proved in proofs/Theorem.antt, and assumes nothing:
 -- `accepted-texts : (limit most : ℕ) → limit ≤ 99 → TextPromises limit most`,
 -- `outputs : (P : Protocol) (limit most : ℕ) → OutputPromises P limit most`,
--- `output-demand-3 : (limit most : ℕ) → OutputDemand3 limit most`.
+-- `promises-printed : (limit most : ℕ) → PromisesPrinted limit most`.
 use Prim.Native.Nat.{ℕ, _+_, _≤_, _<_}
 use mathlib.Core.Path.{_≡_}
 use mathlib.Core.List.{List}
@@ -14,16 +14,16 @@ use Rattle.schedule.specs.Schedule.{Schedule}
 use Rattle.schedule.specs.Questions.{question}
 use Rattle.run.specs.Protocol.{Protocol, fcwfa}
 use Rattle.run.specs.Report.{Report, report}
-use Rattle.run.specs.Given.{GivenDemand3}
+use Rattle.run.specs.Given.{GivenPromises}
 use Rattle.text.specs.Written.{textOf}
 use Rattle.text.specs.Reading.{longest, sizesIn, textAnswer}
 use Rattle.text.specs.Output.{reportText, refusalText, outputOf}
 
--- the bytes print what is given for the schedule, and what is given keeps demand 3
-pub record PrintsDemand3 (s : Schedule) (bytes : List ℕ) : Type 0 where
+-- the bytes print what is given for the schedule, and what is given keeps demand 3 and the crashes so far
+pub record PrintsPromises (s : Schedule) (bytes : List ℕ) : Type 0 where
   pub given : Report
   pub prints : bytes ≡ reportText (s .n) (s .t) given
-  pub demand-3 : GivenDemand3 s given
+  pub promises : GivenPromises s given
 
 -- Two reports that are printed alike say the same: the sizes, the counts, and the decision and the round of each process. So what is printed has one
 -- reading. Proved in proofs/Says.antt:
@@ -60,9 +60,9 @@ pub record OutputPromises (P : Protocol) (limit most : ℕ) : Type 1 where
   pub refusal-says : (text : List ℕ) (number k : ℕ) → textAnswer text limit most ≡ refused number k
       → (m j : ℕ) (line : List ℕ) → outputOf P text limit most ≡ refusalText m j line → (number ≡ m) × (k ≡ j)
 
--- Under FCWFA: demand 3 of what is printed for an accepted text.
-pub record OutputDemand3 (limit most : ℕ) : Type 0 where
-  pub demand-3 : (text : List ℕ) (s : Schedule) → textAnswer text limit most ≡ accepted s → PrintsDemand3 s (outputOf fcwfa text limit most)
+-- Under FCWFA: demand 3 and the crashes so far of what is printed for an accepted text.
+pub record PromisesPrinted (limit most : ℕ) : Type 0 where
+  pub printed : (text : List ℕ) (s : Schedule) → textAnswer text limit most ≡ accepted s → PrintsPromises s (outputOf fcwfa text limit most)
 
 -- The text of an accepted schedule of at most 32 processes has at most 2,048 bytes, so it is read back. Proved in proofs/Theorem.antt:
 -- `all-read-back : AllReadBack`.

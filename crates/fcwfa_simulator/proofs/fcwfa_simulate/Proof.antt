@@ -37,7 +37,7 @@ returns c =
       decisions-given = run .decisions-given;
       rounds-given = run .rounds-given;
       counts-given = c .counts-numbers .ensures ∙ given .1;
-      demand-3 = completed-keeps _ (run .demand-3) completed (c .counts-numbers .ensures);
+      promises = completed-keeps _ (run .promises) completed (c .counts-numbers .ensures);
     }
 
 same-length-3 : tie.Need-same-length-3
@@ -58,7 +58,7 @@ returns-2 c =
       decisions-given = run .decisions-given;
       rounds-given = run .rounds-given;
       counts-given = kept .1;
-      demand-3 = refused-keeps _ (λ e. number .1 (sym (number .0) ∙ e));
+      promises = refused-keeps _ (λ e. number .1 (sym (number .0) ∙ e));
     }
 
 pub fcwfa-simulate-spec : {M : Type 1} → statement M

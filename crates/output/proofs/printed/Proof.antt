@@ -11,7 +11,7 @@ use Rattle.text.specs.Reading.{longest, scheduleIn}
 use Rattle.reader.specs.Answers.{readingIs, readAnswer}
 use Rattle.text.specs.Output.{outputOf}
 use Rattle.output.specs.Answers.{outputIs}
-use Rattle.output.proofs.Texts.{schedule-read, n-small, read-question, report-printed, line-shown, refusal-printed, counts, keeps-demand-3}
+use Rattle.output.proofs.Texts.{schedule-read, n-small, read-question, report-printed, line-shown, refusal-printed, counts, keeps-promises}
 use Rattle.output.proofs.printed.Statement.{statement}
 use Rattle.output.proofs.printed.Tie as tie
 
@@ -80,7 +80,7 @@ returns c =
     let text = d .before .before .before .before .before .before .before .before .before .before .before .before .before .args .text .now in
     let long = sized (d .before .before .before .before .before) in
     let e = c .of-tables .ensures .0 ∙ ap outputIs (report-printed text _ _ _ (long .0) (long .1) (long .2) (accepts d) fcwfa _ (schedule d)) in
-    (e, (counts (outputOf fcwfa text largest longest) e (c .of-tables .ensures .1), keeps-demand-3 text _ e (c .of-tables .ensures .1)))
+    (e, (counts (outputOf fcwfa text largest longest) e (c .of-tables .ensures .1), keeps-promises text _ e (c .of-tables .ensures .1)))
 
 returns-2 : tie.Need-returns-2
 returns-2 c =
@@ -88,7 +88,7 @@ returns-2 c =
     let text = d .before .before .before .before .before .before .before .before .before .before .before .before .before .args .text .now in
     let long = sized (d .before .before .before .before .before) in
     let e = c .refused .ensures .0 ∙ ap outputIs (refusal-printed text _ _ _ (long .0) (long .1) (long .2) (refuses d) fcwfa) in
-    (e, (counts (outputOf fcwfa text largest longest) e (c .refused .ensures .1), keeps-demand-3 text _ e (c .refused .ensures .1)))
+    (e, (counts (outputOf fcwfa text largest longest) e (c .refused .ensures .1), keeps-promises text _ e (c .refused .ensures .1)))
 
 pub printed-spec : {M : Type 1} → statement M
 printed-spec =

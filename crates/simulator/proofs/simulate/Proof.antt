@@ -23,7 +23,7 @@ returns c =
       answered = refused-answer fcwfa s d r left (c .if1 .taken);
       decisions-given = kept-table fcwfa s d r left (c .if1 .taken) _ _;
       rounds-given = kept-table fcwfa s d r left (c .if1 .taken) _ _;
-      demand-3 = refused-keeps fcwfa s d r left (c .if1 .taken);
+      promises = refused-keeps fcwfa s d r left (c .if1 .taken);
     }
 
 fill-requires : tie.Need-fill-requires
@@ -60,7 +60,7 @@ returns-2 c =
       answered = completed-answer fcwfa s d r left accepting (filled .0) (filled .1) found;
       decisions-given = given-decisions fcwfa s d r left accepting (filled .0) (filled .1) found;
       rounds-given = given-rounds fcwfa s d r left accepting (filled .0) (filled .1) found;
-      demand-3 = completed-keeps s _ (passed fcwfa s d r left accepting) (given-is fcwfa s d r left accepting (filled .0) (filled .1) found);
+      promises = completed-keeps s _ (passed fcwfa s d r left accepting) (given-is fcwfa s d r left accepting (filled .0) (filled .1) found);
     }
 
 pub simulate-spec : {M : Type 1} → statement M
