@@ -1,16 +1,17 @@
 -- By the crashes so far, of the run of every schedule that keeps the rules: what early decision says of a run as plain numbers, said of its rounds. And
 -- nobody completes the last round undecided. Assumes nothing.
-use mathlib.Core.Path.{_≡_, refl, subst}
+use mathlib.Core.Path.{_≡_, refl, ap}
 use Prim.Native.Nat.{ℕ, zero, suc, _+_, _≤_, _<_}
 use native.Mathlib.Numerals.{add-one}
 use native.Mathlib.Omega.{arith}
 use Rattle.schedule.specs.Schedule.{Schedule, crashedBy}
 use Rattle.schedule.specs.Questions.{Rules}
 use Rattle.run.specs.Protocol.{fcwfa}
+use Rattle.run.specs.Run.{after}
 use Rattle.run.specs.Demand.{CompletesUndecided}
 use Rattle.run.specs.CrashesSoFar.{CrashesSoFar, LastRound}
 use Rattle.run.proofs.World.{Plays}
-use Rattle.run.proofs.States.{undecided}
+use Rattle.run.proofs.States.{undecided, last-round}
 use Rattle.run.proofs.EarlyDecision.{EndsUndecided, crashes-so-far}
 use Rattle.run.proofs.CrashRounds.{alive, crashes-are}
 use Rattle.run.proofs.FcwfaRun.{runWorld, laws, rules}
@@ -40,9 +41,10 @@ module _ (s : Schedule) (ok : Rules s) where
         round-t = λ i h. let y = so-far (s .t) i (omega arith) (omega arith) h .1 refl in omega arith;
       }
 
-  pub last-round : LastRound s (CompletesUndecided fcwfa s)
-  last-round i h =
-      let tl = ok .t-low in
-      let k = ends-undecided (s .t) i (omega arith) (omega arith) (subst (λ r. CompletesUndecided fcwfa s r i) (add-one (s .t)) h) in
-      let b = k .not-last in
+  pub by-last-round : LastRound s (CompletesUndecided fcwfa s)
+  by-last-round i h =
+      let a = alive s (s .t + 1) i (omega arith) (h .completes-it .completed) in
+      let p = last-round (runWorld s) (laws s ok) i (h .completes-it .process) (omega arith) in
+      let e = ap (λ r. after fcwfa s r i .decided) (add-one (s .t)) in
+      let u = h .undecided in
       omega arith

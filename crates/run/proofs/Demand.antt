@@ -20,7 +20,7 @@ use Rattle.run.proofs.Votes.{abort, abort-2, commit-2}
 use Rattle.run.proofs.Agreement.{agreement}
 use Rattle.run.proofs.Messages.{bounded}
 use Rattle.run.proofs.CrashRounds.{alive, living, crashes-all}
-use Rattle.run.proofs.CrashesSoFar.{by-crashes-so-far, last-round}
+use Rattle.run.proofs.CrashesSoFar.{by-crashes-so-far, by-last-round}
 use Rattle.run.proofs.RoundB.{round-b-follows}
 use Rattle.run.proofs.FcwfaMember.{Stands, behaves}
 use Rattle.run.proofs.RunWorld.{vote-is, sentOf, sent-high, sent-by}
@@ -56,7 +56,7 @@ module _ (s : Schedule) (ok : Rules s) where
   B = roundB f (s .t)
 
   pub nobody-by-b : Nobody (CompletesUndecided fcwfa s) B
-  nobody-by-b = round-b-follows s (CompletesUndecided fcwfa s) (by-crashes-so-far s ok) (last-round s ok) (ok .few)
+  nobody-by-b = round-b-follows s (CompletesUndecided fcwfa s) (by-crashes-so-far s ok) (by-last-round s ok) (ok .few)
 
   -- so whoever completes round B has decided by then
   pub by-round-b : (i : ℕ) → Completes s B i → 0 < after fcwfa s B i .decided

@@ -15,7 +15,7 @@ use Rattle.run.specs.CrashesSoFar.{CrashesSoFar, LastRound}
 use Rattle.run.specs.Given.{Gives, GivesBy, GivenNoneBy, GivenDemand3, GivenPromises}
 use Rattle.run.proofs.States.{range, stays}
 use Rattle.run.proofs.FcwfaRun.{runWorld, laws}
-use Rattle.run.proofs.CrashesSoFar.{by-crashes-so-far, last-round}
+use Rattle.run.proofs.CrashesSoFar.{by-crashes-so-far, by-last-round}
 use Rattle.run.proofs.RoundB.{b-high, settles-follows}
 use Rattle.run.proofs.Demand.{B, by-round-b, end-is, demand-3}
 use Rattle.run.proofs.Reported.{reported}
@@ -55,29 +55,17 @@ module _ (s : Schedule) (ok : Rules s) where
         fast-commit = λ all none i l. gives i 1 2 (d .fast-commit all (omega arith) i l);
       }
 
-  -- whoever completes a round of the run and is given no decision by then completes it undecided
-  none-by : (r i : ℕ) → r ≤ suc (s .t) → GivenNoneBy s (report fcwfa s) r i → CompletesUndecided fcwfa s r i
-  none-by r i high g =
-      elim (eq-zero-or-pos (after fcwfa s r i .decided)) [
-        | inl z ↦ record { completes-it = g .completes-it; undecided = z }
-        | inr p ↦
-            let b = by-round r i high (g .completes-it .process) p in
-            let x = b .gives .round in
-            let y : b .in-round ≢ 0 = b .gives .not-none in
-            let z = b .by in
-            absurd (elim (g .none-by) [ inl none ↦ omega arith | inr later ↦ omega arith ])
-      ]
-
   given-so-far : CrashesSoFar s (GivenNoneBy s (report fcwfa s))
   given-so-far =
       let k = by-crashes-so-far s ok in
+      let none-given = reported s ok .none-given in
       record {
-        early = λ r i low high g. k .early r i low high (none-by r i (omega arith) g);
-        round-t = λ i g. k .round-t i (none-by (s .t) i (omega arith) g);
+        early = λ r i low high g. k .early r i low high (none-given r i (omega arith) g);
+        round-t = λ i g. k .round-t i (none-given (s .t) i (omega arith) g);
       }
 
   given-last : LastRound s (GivenNoneBy s (report fcwfa s))
-  given-last i g = last-round s ok i (none-by (s .t + 1) i (omega arith) g)
+  given-last i g = by-last-round s ok i (reported s ok .none-given (s .t + 1) i (omega arith) g)
 
   pub given-promises : GivenPromises s (report fcwfa s)
   given-promises = record {

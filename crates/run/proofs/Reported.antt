@@ -1,7 +1,9 @@
--- The reported f counts the crashes, and the reported tables hold what each process decides and in which round, and 2 and 0 for none. Assumes nothing.
+-- The reported f counts the crashes, and the reported tables hold what each process decides and in which round, and 2 and 0 for none. A round there is at
+-- most r exactly if the decision stands after round r, since a decision stays and is made in the round that it names. Assumes nothing.
 use mathlib.Core.Path.{_≡_, sym, ap, _∙_}
 use mathlib.Core.Logic.{inl, inr, _≢_}
 use Prim.Native.Nat.{ℕ, suc, _+_, _≤_, _<_}
+use native.Mathlib.Nat.{eq-zero-or-pos}
 use native.Mathlib.Omega.{arith}
 use lib.Dec.{eqb}
 use lib.ListN.{length, getD, List·getD-eq-default}
@@ -16,9 +18,11 @@ use Rattle.schedule.proofs.Crashes.{all-crashes}
 use Rattle.run.specs.Protocol.{Protocol, fcwfa, nobody}
 use Rattle.run.specs.Run.{stateAt, final}
 use Rattle.run.specs.Report.{roundOf, decisionOf, report}
+use Rattle.run.specs.Demand.{CompletesUndecided}
+use Rattle.run.specs.Given.{GivenNoneBy}
 use Rattle.run.specs.Facts.{Reported}
 use Rattle.run.proofs.Rounds.{states-long}
-use Rattle.run.proofs.States.{bits}
+use Rattle.run.proofs.States.{bits, range, stays, between}
 use Rattle.run.proofs.FcwfaRun.{runWorld, laws}
 use Rattle.run.proofs.Demand.{end-is}
 
@@ -62,6 +66,38 @@ module _ (s : Schedule) (ok : Rules s) where
       let e = ap (λ m. m .estimate) (end-is s ok i) in
       omega arith
 
+  given-none : (r i : ℕ) → r ≤ s .t + 1 → CompletesUndecided fcwfa s r i → GivenNoneBy s (report fcwfa s) r i
+  given-none r i high h =
+      let l = h .completes-it .process in
+      let e = round-at i l in
+      let f = ap (λ m. m .decided) (end-is s ok i) in
+      record {
+        completes-it = h .completes-it;
+        none-by =
+            elim (eq-zero-or-pos (ended i)) [
+              | inl z ↦ inl (omega arith)
+              | inr p ↦ inr (let later = between (runWorld s) (laws s ok) r (suc (s .t)) i (omega arith) (omega arith) l (h .undecided) (omega arith) in omega arith)
+            ];
+      }
+
+  none-given : (r i : ℕ) → r ≤ s .t + 1 → GivenNoneBy s (report fcwfa s) r i → CompletesUndecided fcwfa s r i
+  none-given r i high g =
+      let l = g .completes-it .process in
+      let e = round-at i l in
+      let f = ap (λ m. m .decided) (end-is s ok i) in
+      record {
+        completes-it = g .completes-it;
+        undecided =
+            elim (range (runWorld s) (laws s ok) r (omega arith) i l) [
+              | inl z ↦ z
+              | inr made ↦
+                  let low = made .low in
+                  let by = made .high in
+                  let st = stays (runWorld s) (laws s ok) r (suc (s .t)) i (omega arith) (omega arith) l low in
+                  absurd (elim (g .none-by) [ inl none ↦ omega arith | inr later ↦ omega arith ])
+            ];
+      }
+
   pub reported : Reported s
   reported = record {
     crashes = sym (all-crashes s ok);
@@ -79,4 +115,6 @@ module _ (s : Schedule) (ok : Rules s) where
         let q : ended i ≢ 0 = λ z. d (e ∙ z) in
         record { process = l; round = sym e; not-none = d; value = sym (decided-at i l q) };
     undecided = λ i l z. undecided-at i l (sym (round-at i l) ∙ z);
+    given-none = given-none;
+    none-given = none-given;
   }

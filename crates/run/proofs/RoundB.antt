@@ -61,7 +61,7 @@ pub settles-follows : SettlesFollows
 settles-follows s Undecided so-far last few =
     record {
       decided = nobody-in s Undecided so-far last (settlingOf s) (settling-too-few (s .t) (crashedBy s));
-      within-b = settling-least (s .t) (crashedBy s) (roundB (crashCount s) (s .t)) (b-too-few s few);
+      within-b = let h = settling-least (s .t) (crashedBy s) (roundB (crashCount s) (s .t)) (b-too-few s few) in omega arith;
     }
 
 -- round B is a round of the run

@@ -1,5 +1,6 @@
--- The settling round is at most t + 1, and a round q before it has too many crashes to be it: at least q − 1 by q if q is from 2 to t − 1, and at least t
--- by t if q is t. This is what its definition comes to, of any t and of any crashes. Assumes nothing.
+-- The settling round is at most t + 1 and has too few crashes for a process to complete it undecided; and a round q before it has enough: at least q − 1 by
+-- q if q is from 2 to t − 1, and at least t by t if q is t. So it is the least with too few. This is what its definition comes to, of any t and of any
+-- crashes. Assumes nothing.
 use mathlib.Core.Path.{_≡_, _∙_}
 use mathlib.Core.Logic.{inl, inr}
 use Prim.Native.Nat.{ℕ, _+_, _-_, _≤_, _<_}
@@ -9,7 +10,7 @@ use borrow.Author.Tests.{ltb-true, ltb-false}
 use Rattle.laws.proofs.Test.{true-or-false, cond-true, cond-false}
 use Rattle.laws.proofs.Least.{least-before, least-passes}
 use Rattle.laws.proofs.Counting.{split}
-use Rattle.run.specs.CrashesSoFar.{earlyRound, settlingRound}
+use Rattle.run.specs.CrashesSoFar.{fewBy, earlyRound, settlingRound}
 
 module _ (t : ℕ) (crashed : ℕ → ℕ) where
   -- which of the three rounds it is, and why
@@ -26,8 +27,8 @@ module _ (t : ℕ) (crashed : ℕ → ℕ) where
         | inr e ↦
             let past = ltb-false _ _ e in
             elim (true-or-false (ltb (crashed t) t)) [
-              | inl f ↦ is-t past (ltb-true _ _ f) (cond-false _ _ _ e ∙ cond-true _ _ _ f)
-              | inr f ↦ is-last past (ltb-false _ _ f) (cond-false _ _ _ e ∙ cond-false _ _ _ f)
+              | inl f ↦ is-t past (ltb-true (crashed t) t f) (cond-false _ _ _ e ∙ cond-true _ _ _ f)
+              | inr f ↦ is-last past (ltb-false (crashed t) t f) (cond-false _ _ _ e ∙ cond-false _ _ _ f)
             ]
       ]
 
@@ -40,8 +41,9 @@ module _ (t : ℕ) (crashed : ℕ → ℕ) where
   unfolding earlyRound
   before-early q low l =
       let e : 2 + (q - 2) ≡ q = omega arith in
-      let f = least-before (t - 2) (λ k. ltb (crashed (2 + k)) (2 + k - 1)) (q - 2) (omega arith) in
-      ltb-false _ _ (rw e at f)
+      let f = least-before (t - 2) (λ k. fewBy t crashed (2 + k)) (q - 2) (omega arith) in
+      let h = ltb-false (crashed q) _ (rw e at f) in
+      omega arith
 
   -- a round from 2 to t − 1 that is before the settling round is before the early round too
   pub settling-early : (q : ℕ) → 2 ≤ q → q ≤ t - 1 → q < settlingRound t crashed → q - 1 ≤ crashed q
@@ -63,7 +65,9 @@ module _ (t : ℕ) (crashed : ℕ → ℕ) where
   -- the early round has too few, since the least one passes the test where it is below t
   at-early : earlyRound t crashed < t → (2 ≤ earlyRound t crashed) × (crashed (earlyRound t crashed) < earlyRound t crashed - 1)
   unfolding earlyRound
-  at-early l = (omega arith, ltb-true _ _ (least-passes (t - 2) (λ k. ltb (crashed (2 + k)) (2 + k - 1)) (omega arith)))
+  at-early l =
+      let few = least-passes (t - 2) (λ k. fewBy t crashed (2 + k)) (omega arith) in
+      (omega arith, ltb-true (crashed (earlyRound t crashed)) (earlyRound t crashed - 1) few)
 
   pub settling-too-few : TooFew (settlingRound t crashed)
   settling-too-few =

@@ -11,7 +11,7 @@ use Rattle.run.specs.Protocol.{fcwfa}
 use Rattle.run.specs.Demand.{CompletesUndecided}
 use Rattle.run.specs.Facts.{Conditions, RunPromises}
 use Rattle.run.proofs.Rounds.{completes-if}
-use Rattle.run.proofs.CrashesSoFar.{by-crashes-so-far, last-round}
+use Rattle.run.proofs.CrashesSoFar.{by-crashes-so-far, by-last-round}
 use Rattle.run.proofs.RoundB.{settles-follows}
 use Rattle.run.proofs.Demand.{demand-3}
 use Rattle.run.proofs.Deciders.{deciders}
@@ -36,8 +36,8 @@ accepted-run s limit answers e =
       demand-3 = demand-3 s (a .rules);
       conditions = conditions s;
       crashes-so-far = by-crashes-so-far s (a .rules);
-      last-round = last-round s (a .rules);
-      settles = settles-follows s (CompletesUndecided fcwfa s) (by-crashes-so-far s (a .rules)) (last-round s (a .rules)) (a .rules .few);
+      last-round = by-last-round s (a .rules);
+      settles = settles-follows s (CompletesUndecided fcwfa s) (by-crashes-so-far s (a .rules)) (by-last-round s (a .rules)) (a .rules .few);
       reported = reported s (a .rules);
       deciders = deciders s (a .rules);
       none-refused = none-refused s (a .rules) limit (a .n-high);

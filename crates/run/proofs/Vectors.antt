@@ -2,7 +2,7 @@
 use mathlib.Core.Path.{refl}
 use lib.Count.{ones, onesIn}
 use Rattle.laws.specs.Test.{within}
-use Rattle.laws.specs.Below.{sum, count, tabulate, fold}
+use Rattle.laws.specs.Below.{sum, count, least, tabulate, fold}
 use Rattle.laws.specs.Answer.{ask, placeAfter}
 use Rattle.member.specs.Opening.{openQuestion}
 use Rattle.member.specs.State.{inLimits, placed, inRange, stopped}
@@ -14,10 +14,11 @@ use Rattle.schedule.specs.Schedule.{crashedBy}
 use Rattle.run.specs.Run.{completesRound, isHeard, delivered, codeHeard, rowOf, stateAfter, nextState, played, opened, statesAfter, final}
 use Rattle.run.specs.Report.{sentBy, messages, ahead, before, firstWith, firstOf, lastOf}
 use Rattle.run.specs.Demand.{roundB, mostMessages}
+use Rattle.run.specs.CrashesSoFar.{earlyRound, settlingRound}
 use Rattle.run.specs.Vectors.{RunVectors}
 
 pub run-vectors : RunVectors
-unfolding within sum count fold ask placeAfter openQuestion inLimits placed inRange stopped says codes told toldEarly toldBoth firstEstimate becomes sayQuestion rowQuestion hearQuestion crashedBy ahead before firstWith firstOf lastOf roundB mostMessages ones onesIn tabulate zerosOnly quiet enough ruleMet lowered toldValue byRule names completesRound isHeard delivered codeHeard rowOf stateAfter nextState played opened statesAfter final sentBy messages
+unfolding within sum count least fold ask placeAfter openQuestion inLimits placed inRange stopped says codes told toldEarly toldBoth firstEstimate becomes sayQuestion rowQuestion hearQuestion crashedBy ahead before firstWith firstOf lastOf roundB mostMessages ones onesIn tabulate zerosOnly quiet enough ruleMet lowered toldValue byRule names completesRound isHeard delivered codeHeard rowOf stateAfter nextState played opened statesAfter final sentBy messages earlyRound settlingRound
 run-vectors =
     record {
       round-b-of-3 = refl;
@@ -25,6 +26,8 @@ run-vectors =
       most-messages = refl;
       bound-met = refl;
       crashed-by = refl;
+      settling-of-4 = refl;
+      settling-of-7 = refl;
       first-by-round = refl;
       first-survivor = refl;
       last = refl;

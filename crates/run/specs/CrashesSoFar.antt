@@ -12,12 +12,17 @@ use Rattle.schedule.specs.Questions.{Accepted}
 use Rattle.run.specs.Protocol.{fcwfa}
 use Rattle.run.specs.Demand.{CompletesUndecided, roundB}
 
--- The settling round, of t and of how many processes have crash rounds from 1 to r, `crashed r`. It is the first r from 2 to t − 1 with fewer than r − 1
--- crashes by r, else t if there are fewer than t by t, else t + 1.
+-- The settling round, of t and of how many processes have crash rounds from 1 to r, `crashed r`: the least round by which every process that completes it
+-- has decided, as far as the crash rounds tell. It is the first r from 2 to t − 1 with fewer than r − 1 crashes by r, else t if there are fewer than t by t,
+-- else t + 1.
 module _ (t : ℕ) (crashed : ℕ → ℕ) where
-  -- the first r from 2 to t − 1 with fewer than r − 1 crashes by r; it is not below t if there is none
+  -- fewer than r − 1 crashes by r
+  abbrev pub fewBy : ℕ → Bool
+  fewBy r = ltb (crashed r) (r - 1)
+
+  -- the first such r from 2 to t − 1; it is not below t if there is none
   unfoldable pub earlyRound : ℕ
-  earlyRound = 2 + least (t - 2) (λ k. ltb (crashed (2 + k)) (2 + k - 1))
+  earlyRound = 2 + least (t - 2) (λ k. fewBy (2 + k))
 
   unfoldable pub settlingRound : ℕ
   settlingRound =

@@ -16,7 +16,7 @@ use Rattle.run.specs.Run.{stateAt, codeHeard, rowOf, statesAfter, after,
 use Rattle.run.specs.Report.{roundOf, before, sent, sentAfter, report}
 use Rattle.run.specs.Demand.{Completes, Decides, CompletesUndecided, SomeVotedZero, Demand3}
 use Rattle.run.specs.CrashesSoFar.{CrashesSoFar, LastRound, Settles}
-use Rattle.run.specs.Given.{GivenPromises}
+use Rattle.run.specs.Given.{GivenNoneBy, GivenPromises}
 
 module _ (P : Protocol) (s : Schedule) where
   -- Who hears whom in round r, whatever the states at its start: what i hears from j.
@@ -60,7 +60,8 @@ pub record Conditions (s : Schedule) : Type 0 where
   pub completes-until : (r i : ℕ) → i < s .n → r < crashOf s i → Completes s r i
 
 -- The reported f is the number of processes with crash rounds from 1 to t + 1. The reported decisions and rounds are those that the processes
--- decide, and 2 and 0 for one that does not; so whatever demand 3 says of deciding holds of the report's two tables.
+-- decide, and 2 and 0 for one that does not; so whatever demand 3 says of deciding holds of the report's two tables. And of a process that completes a
+-- round they give no decision by then exactly where it completes it undecided.
 pub record Reported (s : Schedule) : Type 0 where
   pub crashes : report fcwfa s .f ≡ crashedBy s (s .t + 1)
   pub decisions-long : length (report fcwfa s .decisions) ≡ s .n
@@ -69,6 +70,8 @@ pub record Reported (s : Schedule) : Type 0 where
   pub decides : (i : ℕ) → i < s .n → getD (report fcwfa s .rounds) i 0 ≢ 0
       → Decides fcwfa s i (getD (report fcwfa s .decisions) i 2) (getD (report fcwfa s .rounds) i 0)
   pub undecided : (i : ℕ) → i < s .n → getD (report fcwfa s .rounds) i 0 ≡ 0 → getD (report fcwfa s .decisions) i 2 ≡ 2
+  pub given-none : (r i : ℕ) → r ≤ s .t + 1 → CompletesUndecided fcwfa s r i → GivenNoneBy s (report fcwfa s) r i
+  pub none-given : (r i : ℕ) → r ≤ s .t + 1 → GivenNoneBy s (report fcwfa s) r i → CompletesUndecided fcwfa s r i
 
 -- process i is the first decider, and its number is reported: it decides, and goes before every other process that does
 pub record FirstIs (s : Schedule) (i : ℕ) : Type 0 where

@@ -12,6 +12,7 @@ use Rattle.schedule.specs.Schedule.{scheduleOf, crashedBy}
 use Rattle.run.specs.Protocol.{fcwfa, nobody, byCalls}
 use Rattle.run.specs.Report.{firstOf, lastOf, report}
 use Rattle.run.specs.Demand.{roundB, mostMessages}
+use Rattle.run.specs.CrashesSoFar.{settlingOf}
 
 -- the rounds that stand in a table, 0 past its end
 abbrev pub roundsIn : List ℕ → ℕ → ℕ
@@ -20,6 +21,10 @@ roundsIn table i = getD table i 0
 -- the first decider of four processes with these crash rounds and these decided rounds
 abbrev pub firstOfFour : List ℕ → List ℕ → ℕ
 firstOfFour crashes rounds = firstOf (roundsIn crashes) (roundsIn rounds) 4
+
+-- the settling round of so many processes with these crash rounds, t of which may crash; no votes and no reaches are looked at
+abbrev pub settlingIn : ℕ → ℕ → List ℕ → ℕ
+settlingIn n t crashes = settlingOf (scheduleOf n t [] crashes [])
 
 -- a member of four in round 9, which is not in range: t is 3
 abbrev pub lateMember : Member
@@ -34,6 +39,14 @@ pub record RunVectors : Type 0 where
   pub bound-met : report fcwfa (scheduleOf 4 3 allOne allZero allZero) .messages ≡ mostMessages 4 3 0
   -- crash rounds from 1 to r, of those of case E: none to round 0, one to round 1, two to round 2, three to round 3
   pub crashed-by : map (crashedBy (scheduleOf 4 3 allOne (four 1 3 0 2) allZero)) (four 0 1 2 3) ≡ four 0 1 2 3
+  -- the first r from 2 to t − 1 with fewer than r − 1 crashes by r, else t if there are fewer than t by t, else t + 1: four processes with t = 3, cases A,
+  -- D, E, G, H and K
+  pub settling-of-4 : map (settlingIn 4 3) (allZero ∷ four 1 0 0 0 ∷ four 1 3 0 2 ∷ four 1 0 0 2 ∷ four 3 0 0 0 ∷ four 1 1 1 0 ∷ []) ≡ 2 ∷ 3 ∷ 4 ∷ 3 ∷ 2 ∷ 4 ∷ []
+  -- seven processes with t = 6: six crashes in round 3, none by 2; one by 2 and 3; three by 2 to 5; one by 2, two by 3, three by 4, four by 5 and by 6; six by
+  -- 6; and five by 6, with one more in round 7
+  pub settling-of-7 : map (settlingIn 7 6)
+      ((3 ∷ 3 ∷ 3 ∷ 3 ∷ 3 ∷ 3 ∷ 0 ∷ []) ∷ (1 ∷ 6 ∷ 6 ∷ 0 ∷ 0 ∷ 0 ∷ 0 ∷ []) ∷ (1 ∷ 1 ∷ 1 ∷ 0 ∷ 0 ∷ 0 ∷ 0 ∷ []) ∷ (2 ∷ 3 ∷ 4 ∷ 5 ∷ 0 ∷ 0 ∷ 0 ∷ [])
+      ∷ (1 ∷ 2 ∷ 3 ∷ 4 ∷ 5 ∷ 6 ∷ 0 ∷ []) ∷ (1 ∷ 2 ∷ 3 ∷ 4 ∷ 5 ∷ 7 ∷ 0 ∷ []) ∷ []) ≡ 2 ∷ 3 ∷ 5 ∷ 6 ∷ 7 ∷ 6 ∷ []
   -- "the one with the smallest decided round": a process that crashes, with the smaller round; two that never crash, in one round; two in different
   -- rounds; and 0 for none
   pub first-by-round : map (firstOfFour (four 4 0 0 0)) (four 2 3 3 0 ∷ four 4 3 3 0 ∷ four 0 4 0 3 ∷ allZero ∷ []) ≡ 1 ∷ 2 ∷ 4 ∷ 0 ∷ []
