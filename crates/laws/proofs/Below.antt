@@ -44,6 +44,13 @@ pub bit-high : (b : Bool) → bit b ≤ 1
 bit-high true = omega arith
 bit-high false = omega arith
 
+-- a bit tells its test
+pub bit-same : (a b : Bool) → bit a ≡ bit b → a ≡ b
+bit-same true true e = refl
+bit-same true false e = absurd (omega arith)
+bit-same false true e = absurd (omega arith)
+bit-same false false e = refl
+
 pub count-high : (n : ℕ) (p : ℕ → Bool) → count n p ≤ n
 unfolding count
 count-high zero p = zero-le

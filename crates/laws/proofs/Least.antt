@@ -24,16 +24,6 @@ least-is (suc n) p (suc k) h before at =
     ap suc (least-is n (λ i. p (suc i)) k (omega arith) (λ i l. before (suc i) (omega arith)) (λ l. at (omega arith)))
     ∙ sym (least-later n p (before 0 (omega arith)))
 
--- it is at most n
-pub least-high : (n : ℕ) (p : ℕ → Bool) → least n p ≤ n
-unfolding least
-least-high zero p = omega arith
-least-high (suc n) p =
-    elim (true-or-false (p 0)) [
-      | inl e ↦ let here = least-here n p e in omega arith
-      | inr e ↦ let later = least-later n p e in let high = least-high n (λ i. p (suc i)) in omega arith
-    ]
-
 -- no number before it passes the test
 pub least-before : (n : ℕ) (p : ℕ → Bool) (k : ℕ) → k < least n p → p k ≡ false
 unfolding least

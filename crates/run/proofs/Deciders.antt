@@ -8,21 +8,22 @@ use Prim.Native.Nat.{ℕ, zero, suc, _-_, _<_}
 use native.Mathlib.Nat.{not-suc-le-zero}
 use native.Mathlib.Numerals.{add-one}
 use native.Mathlib.Omega.{arith}
-use lib.Dec.{leb, eqb}
-use borrow.Author.Tests.{eqb-true, eqb-false, eq-eqb, ne-eqb, leb-false}
+use lib.Dec.{eqb}
+use borrow.Author.Tests.{eqb-true, eqb-false, eq-eqb, ne-eqb}
 use Rattle.laws.specs.Below.{fold}
 use Rattle.laws.proofs.Test.{true-or-false, and-both, and-no-left, and-no-right, or-true, or-false, cond-true, cond-false}
 use Rattle.laws.proofs.Below.{bit-high}
-use Rattle.laws.proofs.Counting.{Some, below-or-top, count-short}
+use Rattle.laws.proofs.Counting.{Some, below-or-top}
 use Rattle.laws.proofs.Folds.{largest-high, largest-is}
 use Rattle.schedule.specs.Schedule.{Schedule, crashOf, everCrashes}
 use Rattle.schedule.specs.Questions.{Rules}
+use Rattle.schedule.proofs.Crashes.{some-survives}
 use Rattle.run.specs.Protocol.{fcwfa}
 use Rattle.run.specs.Run.{final}
 use Rattle.run.specs.Report.{roundOf, before, firstWith, firstOf, lastOf}
 use Rattle.run.specs.Facts.{FirstIs, SurvivorsAhead, LastIs, Deciders}
 use Rattle.run.proofs.States.{last-round}
-use Rattle.run.proofs.CrashRounds.{crashRound}
+use Rattle.run.proofs.CrashRounds.{round-never}
 use Rattle.run.proofs.FcwfaRun.{runWorld, laws}
 use Rattle.run.proofs.Demand.{end-is}
 use Rattle.run.proofs.Before.{never-crashes, crashes-once, Before, sooner, survivor, lower, before-is, is-before, before-trans, before-or}
@@ -156,10 +157,9 @@ module _ (s : Schedule) where
     -- a process that never crashes decides
     some-decides : Some (s .n) λ i. ends i ≢ 0
     some-decides =
-        let a = laws s ok .few in
-        let b = ok .t-high in
-        let x = count-short (s .n) (λ j. leb (crashRound s j) (suc (s .t))) (omega arith) in
-        let p = last-round (runWorld s) (laws s ok) (x .0) (x .1) (leb-false (crashRound s (x .0)) (suc (s .t)) (x .2)) in
+        let x = some-survives s ok in
+        let never = round-never s (x .0) (x .2) in
+        let p = last-round (runWorld s) (laws s ok) (x .0) (x .1) (omega arith) in
         let e = ap (λ m. m .decided) (end-is s ok (x .0)) in
         (x .0, x .1, λ z. omega arith)
 

@@ -1,5 +1,5 @@
 -- Early decision. Whoever completes a round undecided was told nothing, so it has too few estimates for the round's rule; and whoever it has no
--- estimate from has crashed. So a round that ends undecided has seen about as many crashes as rounds. Assumes nothing.
+-- estimate from has crashed. So a round that ends undecided is not the last, and has seen about as many crashes as rounds. Assumes nothing.
 use mathlib.Core.Path.{_≡_}
 use mathlib.Core.Logic.{inl, inr}
 use mathlib.Core.Bool.{not}
@@ -17,8 +17,9 @@ use Rattle.run.proofs.States.{Way, way, stays-put, told, not-told, unde
 module _ (w : World) where
   open World w using (n, t, start, crash, estimate, decided, code)
 
-  -- what the crashes by round r + 1 are where some process completes it undecided
+  -- that round r + 1 is not the last, and what the crashes by its end are, where some process completes it undecided
   pub record EndsUndecided (r : ℕ) : Type 0 where
+    pub not-last : r < t
     pub early : suc r < t → r ≤ crashes w (suc r)
     pub round-t : suc r ≡ t → t ≤ crashes w (suc r)
 
@@ -44,6 +45,7 @@ module _ (w : World) where
               | decides e _ ↦ absurd (omega arith)
               | waits _ h ↦
                   record {
+                    not-last = h .not-last;
                     early = λ b. let x = h .not-quiet b in omega arith;
                     round-t = λ b. let x = h .not-count b in omega arith;
                   }

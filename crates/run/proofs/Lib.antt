@@ -18,6 +18,8 @@ pub mod FcwfaRun
 pub mod Settling
 pub mod CrashesSoFar
 pub mod RoundB
+pub mod KeptOpen
+pub mod LeftOpen
 pub mod Demand
 pub mod Reported
 pub mod Given

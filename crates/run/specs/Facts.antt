@@ -15,7 +15,7 @@ use Rattle.run.specs.Protocol.{Protocol, fcwfa, byCalls}
 use Rattle.run.specs.Run.{stateAt, codeHeard, rowOf, statesAfter, after, final}
 use Rattle.run.specs.Report.{roundOf, before, sent, sentAfter, report}
 use Rattle.run.specs.Demand.{Completes, Decides, CompletesUndecided, SomeVotedZero, Demand3}
-use Rattle.run.specs.CrashesSoFar.{CrashesSoFar, LastRound, Settles}
+use Rattle.run.specs.CrashesSoFar.{settlingOf, CrashesSoFar, LastRound, Settles, LeftOpen}
 use Rattle.run.specs.Given.{GivenNoneBy, GivenPromises}
 
 module _ (P : Protocol) (s : Schedule) where
@@ -126,6 +126,8 @@ pub record RunPromises (limit : ℕ) (s : Schedule) : Type 0 where
   pub crashes-so-far : CrashesSoFar s (CompletesUndecided fcwfa s)
   pub last-round : LastRound s (CompletesUndecided fcwfa s)
   pub settles : Settles s (CompletesUndecided fcwfa s)
+  -- and no round before the settling round is one, by the crash rounds alone
+  pub no-sooner : (r : ℕ) → r < settlingOf s → LeftOpen s r
   pub reported : Reported s
   pub deciders : Deciders s
   pub none-refused : NoneRefused fcwfa limit s

@@ -2,7 +2,7 @@
 -- bit below stands for one process, so the ones are those that are named; and bits add up to a number that has them for its bits. Assumes nothing.
 use mathlib.Core.Path.{_≡_, refl, sym, ap, ap₂, _∙_}
 use mathlib.Core.Logic.{inl, inr}
-use mathlib.Core.Bool.{true, false, true≢false}
+use mathlib.Core.Bool.{Bool, true, false, true≢false}
 use Prim.Native.Nat.{ℕ, zero, suc, _+_, _-_, _*_, _/_, _%_, _^_, _≤_, _<_}
 use native.Mathlib.Nat.{add-comm, div-one, div-eq-of-lt, div-lt-iff-lt-mul, le-div-iff-mul-le, lt-of-lt-of-le, mod-eq-of-lt, mod-lt, mod-one, mul-le-mul-right, pow-suc}
 use native.Mathlib.Numerals.{add-one}
@@ -15,6 +15,7 @@ use borrow.Author.Count.{below-none}
 use borrow.Author.Tests.{eqb-true, eqb-false, lt-ltb, le-ltb}
 use Rattle.laws.specs.Below.{bit, count, sum}
 use Rattle.laws.proofs.Test.{true-or-false}
+use Rattle.laws.proofs.Below.{bit-high, bit-same}
 use Rattle.laws.proofs.Counting.{split, below-or-top, count-first, count-same, count-full}
 use Rattle.sets.specs.Sets.{names, upTo, setOf}
 
@@ -134,3 +135,12 @@ module _ (digit : ℕ → ℕ) where
       (named-bit (setOf (suc n) digit) n
       ∙ ap (λ (x : ℕ). x % 2) (ap (λ (x : ℕ). x / 2 ^ n) parts ∙ Pow.high (digit n) n below)
       ∙ mod-eq-of-lt (omega arith))
+
+-- The set of those below n that pass a test: it is one of n processes, and names just them.
+
+module _ (p : ℕ → Bool) (n : ℕ) where
+  pub passing-below : setOf n (λ k. bit (p k)) < 2 ^ n
+  passing-below = set-below (λ k. bit (p k)) n (λ k _. bit-high (p k))
+
+  pub passing-named : (j : ℕ) → j < n → names (setOf n (λ k. bit (p k))) j ≡ p j
+  passing-named j l = bit-same _ (p j) (set-bits (λ k. bit (p k)) n (λ k _. bit-high (p k)) j l)
