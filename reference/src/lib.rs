@@ -1,5 +1,5 @@
 //! The commit bench and its members, written a second time from document 01, and from document 02 as far as its
-//! requests have landed: so far K1, K3 and K4. Where document 02 changes document 01, document 02 stands.
+//! requests have landed: so far K1, K3, K4 and K8. Where document 02 changes document 01, document 02 stands.
 //!
 //! The modules follow document 01 in its order. Processes and rounds are numbered from 1, as there; the entry of
 //! process i in a table stands at place i - 1.
@@ -15,6 +15,7 @@ pub mod questions;
 pub mod report;
 pub mod run;
 pub mod schedule;
+pub mod so_far;
 pub mod text;
 
 /// The largest number of processes.

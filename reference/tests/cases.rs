@@ -53,6 +53,7 @@ fn expect(schedule: &Schedule, expected: &str, f: usize, first: usize, messages:
     assert_eq!(read(&write(schedule)), Ok(schedule.clone()));
     assert_eq!(reference::demand3::check(schedule, &run), Ok(()));
     assert_eq!(reference::first::check(schedule, &run), Ok(()));
+    assert_eq!(reference::so_far::check(schedule, &run), Ok(()));
 }
 
 #[test]

@@ -3,6 +3,8 @@
 use std::collections::BTreeSet;
 use std::thread;
 
+use reference::so_far::Equalities;
+
 /// How many differences are kept in full.
 const KEPT: usize = 3;
 
@@ -26,10 +28,12 @@ pub struct Outcome {
     pub compared: u64,
     /// How many of them differ.
     pub differ: u64,
-    /// How many finished runs were held against demand 3 and the rule of the first decider.
+    /// How many finished runs were held against demand 3, the rule of the first decider and that of the crashes so far.
     pub demands: u64,
     /// How many of them break one of these.
     pub broken: u64,
+    /// How often they meet the number of crashes so far with equality.
+    pub equalities: Equalities,
     /// The first differences in full, each with the number of its case.
     pub differences: Vec<(u64, String)>,
     /// How often each refusal number was met.
@@ -71,7 +75,7 @@ impl Outcome {
         }
     }
 
-    /// Counts one run held against demand 3 and the rule of the first decider, and keeps its words if it breaks one.
+    /// Counts one run held against demand 3 and the two rules, and keeps its words if it breaks one of these.
     pub fn demand(&mut self, case: u64, holds: bool, words: impl FnOnce() -> String) {
         self.demands += 1;
         if !holds {
@@ -92,6 +96,7 @@ impl Outcome {
         self.differ += other.differ;
         self.demands += other.demands;
         self.broken += other.broken;
+        self.equalities += other.equalities;
         for (met, more) in self.met.iter_mut().zip(other.met) {
             *met += more;
         }

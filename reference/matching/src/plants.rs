@@ -5,6 +5,7 @@ use reference::member::Member;
 use reference::report::answer;
 use reference::run::{Run, NONE};
 use reference::schedule::{bit, Schedule};
+use reference::so_far::{crashes_by, settling_round, Rule, RULE};
 
 use crate::crashes::{self, CountCrashes};
 use crate::members::{self, Machine};
@@ -13,8 +14,9 @@ use crate::random::Random;
 use crate::summary::{spelled, Summary};
 use crate::tables::{self, by_reference, Simulate};
 use crate::texts::{self, Program};
-use crate::whole::{check_lengths, check_small_count};
+use crate::whole::{check_lengths, check_small_count, check_small_equalities};
 use crate::wrong::{self, Change, Hear, Wrong, COUNTS, CRASHES, ENDS, FIRSTS, RIGHT, TURNS};
+use crate::wrong::{LOOSE, RULES};
 use crate::{demands, generate, small};
 
 /// The seed and the counts of the self-test. Every size comes up twice among the valid texts, and every length of a
@@ -98,6 +100,7 @@ pub fn controls() -> Vec<Plant> {
         damaged(NAME, &right),
         every_nth(NAME, &by_reference),
         promised(NAME, Member::after, unchanged),
+        met_with_equality(NAME, &RULE),
         called(NAME, &by_reference),
         counted(NAME, &crashes::by_reference),
         machine(NAME, &RIGHT),
@@ -112,11 +115,13 @@ pub fn plants() -> Vec<Plant> {
     plants.extend(in_calls());
     plants.extend(in_crash_counts());
     plants.extend(in_promises());
+    plants.extend(in_rounds_by_crashes());
     plants.extend(in_members());
     plants
 }
 
-/// Faults other than differences: a refusal number that is never met, a schedule left out, and a length left out.
+/// Faults other than differences: a refusal number that is never met, a schedule left out, a length left out, and
+/// rules of the crashes so far that no run breaks.
 pub fn faults() -> Vec<Plant> {
     let right = |text: &[u8]| Ok(answer(text));
     let few = texts::compare_damaged(SEED, 3, &right);
@@ -125,11 +130,14 @@ pub fn faults() -> Vec<Plant> {
     let too_few = CRASH_COUNTS / 2 - crashes::KINDS.len() as u64;
     let short = counted_times("one length left out", too_few, &crashes::by_reference);
     let name = "refusal numbers never met";
-    vec![
+    let mut faults = vec![
         Plant::new("damaged texts", name, few, &texts::NUMBERS),
         left_out,
         short,
-    ]
+    ];
+    let loose = LOOSE.into_iter();
+    faults.extend(loose.map(|(name, rule)| met_with_equality(name, &rule)));
+    faults
 }
 
 /// The wrong turns of document 01 in every part.
@@ -241,6 +249,24 @@ fn in_promises() -> Vec<Plant> {
     ]
 }
 
+/// The wrong rules of the crashes so far on right runs, and runs in which a process decides too late for the crashes.
+fn in_rounds_by_crashes() -> Vec<Plant> {
+    let rules = RULES.into_iter();
+    let mut plants: Vec<Plant> = rules.map(|(name, rule)| ruled(name, &rule)).collect();
+    plants.extend(late_runs());
+    plants
+}
+
+fn late_runs() -> Vec<Plant> {
+    let right = Member::after;
+    vec![
+        promised("undecided with r - 2 crashes by r", right, late_before_t),
+        promised("undecided with t - 1 crashes by t", right, late_in_t),
+        promised("undecided in the last round", right, late_at_the_end),
+        promised("undecided for a later crash", right, late_for_later_crash),
+    ]
+}
+
 fn in_members() -> Vec<Plant> {
     let refused = |refused| Wrong { refused, ..RIGHT };
     let own = |own: usize, n: usize| own.min(n);
@@ -296,15 +322,32 @@ fn machine(name: &'static str, machine: &dyn Machine) -> Plant {
     Plant::new("calls to a member", name, outcome, &members::NUMBERS)
 }
 
-/// Demand 3 and the rule of the first decider on runs that hear by a way and are changed at their end.
+/// Demand 3, the rule of the first decider and that of the crashes so far on runs that hear by a way and are changed at
+/// their end.
 fn promised(name: &'static str, hear: Hear, change: Change) -> Plant {
+    finished(name, &RULE, hear, change)
+}
+
+/// The same on right runs with another rule of the crashes so far.
+fn ruled(name: &'static str, rule: &Rule) -> Plant {
+    finished(name, rule, Member::after, unchanged)
+}
+
+fn finished(name: &'static str, rule: &Rule, hear: Hear, change: Change) -> Plant {
     let outcome = share(VALID, 0, |outcome, case| {
         let mut random = Random::of_case(SEED, 0, case);
         let (_, schedule) = generate::of_case(&mut random, case);
         let run = wrong::changed_run(&schedule, hear, change);
-        demands::check(outcome, case, &schedule, &run);
+        demands::check_by(rule, outcome, case, &schedule, &run);
     });
     Plant::new("finished runs", name, outcome, &[])
+}
+
+/// The same rule on the right runs of all schedules with n = 4 and t = 3, and how often they meet it with equality.
+fn met_with_equality(name: &'static str, rule: &Rule) -> Plant {
+    let mut plant = Plant::new("all of n = 4, t = 3", name, small::hold(rule), &[]);
+    check_small_equalities(&mut plant.summary, &plant.outcome);
+    plant
 }
 
 fn unchanged(_: &Schedule, _: &mut Run) {}
@@ -355,13 +398,63 @@ fn slow_commit(schedule: &Schedule, run: &mut Run) {
     }
 }
 
-/// The last process that decided decides in round 3, unless it is the first decider: that one stays right, so that
-/// demand 3 alone is broken.
+/// The last process that decided decides in round 3, unless it is the first decider: that one stays right. So demand 3
+/// is broken, and with too few crashes for round 2 their rule too, which is asked after it.
 fn slow(run: &mut Run) {
     let last = run.rounds.iter().rposition(|round| *round != 0);
     match last {
         Some(place) if place + 1 != run.counts.first => run.rounds[place] = 3,
         _ => {}
+    }
+}
+
+/// Some process completes the settling round undecided, which is before t. The round before it has enough crashes, or
+/// is round 1: so there is just one too few.
+fn late_before_t(schedule: &Schedule, run: &mut Run) {
+    let settling = settling_round(schedule.t, &schedule.crashes);
+    if settling < schedule.t {
+        late_by_tables(schedule, run, settling);
+    }
+}
+
+/// The same where the settling round is t, and the rule of the rounds before t has enough crashes.
+fn late_in_t(schedule: &Schedule, run: &mut Run) {
+    let (t, crashes) = (schedule.t, &schedule.crashes);
+    if settling_round(t, crashes) == t && crashes_by(crashes, t) == t - 1 {
+        late_by_tables(schedule, run, t);
+    }
+}
+
+/// The same where the settling round is t + 1.
+fn late_at_the_end(schedule: &Schedule, run: &mut Run) {
+    let settling = settling_round(schedule.t, &schedule.crashes);
+    if settling == schedule.t + 1 {
+        late_by_tables(schedule, run, settling);
+    }
+}
+
+/// The same where the settling round is before t, and the later crashes would make enough.
+fn late_for_later_crash(schedule: &Schedule, run: &mut Run) {
+    let settling = settling_round(schedule.t, &schedule.crashes);
+    if settling < schedule.t && schedule.f() >= settling - 1 {
+        late_by_tables(schedule, run, settling);
+    }
+}
+
+/// The last survivor that isn't the first decider decides in the round after r, or never if r is the last one. It is
+/// kept out of the way of demand 3, so that the crashes so far alone are broken: a vote 0, or no crash, promises round
+/// 2, and what the run says of who was undecided, which is held against round B, stays as it was.
+fn late_by_tables(schedule: &Schedule, run: &mut Run, r: usize) {
+    if schedule.has_vote_0() || schedule.f() == 0 {
+        return;
+    }
+    let survivor = |i: &usize| schedule.survives(*i) && *i != run.counts.first;
+    if let Some(i) = (1..=schedule.n).rfind(survivor) {
+        if r == schedule.t + 1 {
+            (run.decisions[i - 1], run.rounds[i - 1]) = (NONE, 0);
+        } else {
+            run.rounds[i - 1] = r as u8 + 1;
+        }
     }
 }
 
@@ -380,6 +473,50 @@ mod tests {
     fn each_plant_is_found() {
         for plant in plants() {
             assert!(plant.found(), "{}: {}", plant.part, plant.name);
+        }
+    }
+
+    /// Of several things that a run breaks the first is told: demand 3, the first decider, the crashes so far.
+    #[test]
+    fn finished_runs_break_what_is_planted() {
+        let found = |plant: &Plant, start: &str| {
+            let mut differences = plant.outcome.differences.iter();
+            assert!(
+                differences.any(|(_, words)| words.starts_with(start)),
+                "{}: no {start}",
+                plant.name
+            );
+        };
+        let starts = [
+            "demand 3: weak fast abort",
+            "demand 3: agreement",
+            "demand 3: abort validity",
+            "demand 3: round B",
+            "demand 3: message bound",
+            "demand 3: message bound",
+            "demand 3: message bound",
+            "demand 3: weak fast abort",
+            "demand 3: fast commit",
+            "first decider: process",
+            "first decider: process",
+        ];
+        let promises = in_promises();
+        assert_eq!(promises.len(), starts.len());
+        for (plant, start) in promises.iter().zip(starts) {
+            found(plant, start);
+        }
+        for plant in in_rounds_by_crashes() {
+            found(&plant, "crashes so far: ");
+        }
+    }
+
+    /// So demand 3 and the rule of the first decider would let them pass.
+    #[test]
+    fn late_runs_break_the_crashes_so_far_alone() {
+        for plant in late_runs() {
+            for (_, words) in &plant.outcome.differences {
+                assert!(words.starts_with("crashes so far: "), "{words}");
+            }
         }
     }
 

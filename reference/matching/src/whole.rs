@@ -5,7 +5,7 @@ use std::path::Path;
 use crate::arguments::Arguments;
 use crate::outcome::Outcome;
 use crate::proved::{count_crashes, simulate, Proved};
-use crate::summary::{print_part, Summary};
+use crate::summary::{equality_words, print_part, Summary};
 use crate::{crashes, damage, generate, members, program, small, tables, texts};
 
 /// Does everything that the arguments ask for, prints what is found, and gives the sum.
@@ -78,6 +78,7 @@ fn match_small(summary: &mut Summary) {
     let heading = "all schedules with n = 4, t = 3";
     add(summary, heading, &[], &outcome, &[]);
     check_small_count(summary, &outcome);
+    check_small_equalities(summary, &outcome);
 }
 
 /// The schedules with n = 4 and t = 3 have to be all that there are.
@@ -86,6 +87,18 @@ pub fn check_small_count(summary: &mut Summary, outcome: &Outcome) {
         let (expected, found) = (small::COUNT, outcome.compared);
         summary.fault(format!(
             "{found} schedules with n = 4, t = 3, not {expected}"
+        ));
+    }
+}
+
+/// The schedules with n = 4 and t = 3 have to meet the number of crashes so far with equality as often as they do. The
+/// runs alone would not show a rule that says less.
+pub fn check_small_equalities(summary: &mut Summary, outcome: &Outcome) {
+    if outcome.equalities != small::EQUALITIES {
+        let expected = equality_words(small::EQUALITIES);
+        let found = equality_words(outcome.equalities);
+        summary.fault(format!(
+            "n = 4, t = 3: {found}; not as expected: {expected}"
         ));
     }
 }

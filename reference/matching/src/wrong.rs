@@ -8,6 +8,7 @@ use reference::questions::Refusal;
 use reference::report::{answer, refusal, report};
 use reference::run::{play, Counts, Run};
 use reference::schedule::{everyone, Schedule};
+use reference::so_far::{crashes_by, Rule, RULE};
 use reference::text::{line, read, Refused};
 use reference::{LARGEST, LONGEST};
 
@@ -376,6 +377,65 @@ fn only(t: usize, crashes: &[u8], some: impl Fn(u8) -> bool) -> Result<CrashCoun
     Ok(count_crashes(t, &crashes.collect::<Vec<u8>>()))
 }
 
+/// Wrong rules of the crashes so far that document 02's K8 invites. The first three say too much: right runs break
+/// them. The last two say too little: no right run breaks them, but they put the settling round above round B.
+pub const RULES: [(&str, Rule); 5] = [
+    (
+        "r crashes in place of r - 1",
+        Rule {
+            least: |t, r| if r == t { t } else { r },
+            ..RULE
+        },
+    ),
+    (
+        "crash rounds below r only",
+        Rule {
+            count: |crashes, r| crashes_by(crashes, r - 1),
+            ..RULE
+        },
+    ),
+    (
+        "t + 1 crashes in round t",
+        Rule {
+            least: |t, r| if r == t { t + 1 } else { r - 1 },
+            ..RULE
+        },
+    ),
+    (
+        "r - 1 crashes in round t too",
+        Rule {
+            least: |_, r| r - 1,
+            ..RULE
+        },
+    ),
+    (
+        "r - 2 crashes in place of r - 1",
+        Rule {
+            least: |t, r| if r == t { t } else { r - 2 },
+            ..RULE
+        },
+    ),
+];
+
+/// Wrong rules that say too little and never put the settling round above round B, so that right runs don't tell them
+/// from the right one. How often they are met with equality does.
+pub const LOOSE: [(&str, Rule); 2] = [
+    (
+        "all crashes counted, however late",
+        Rule {
+            count: |crashes, _| crashes_by(crashes, usize::MAX),
+            ..RULE
+        },
+    ),
+    (
+        "crash rounds up to r + 1",
+        Rule {
+            count: |crashes, r| crashes_by(crashes, r + 1),
+            ..RULE
+        },
+    ),
+];
+
 /// A process acts in its crash round: it shows the decision of another one that decides there. (The fifth wrong turn
 /// that document 01 names.)
 pub fn acts_in_crash_round(schedule: &Schedule, run: &mut Run) {
@@ -700,6 +760,55 @@ mod tests {
         assert_eq!(fs(&[]), [0, 4]);
         assert_eq!(fs(D), [1, 4]);
         assert_eq!(fs(E), [2, 4]);
+    }
+
+    /// The wrong rules of the crashes so far, those that say too much or put the settling round above round B and then
+    /// the others.
+    fn rules() -> impl Iterator<Item = Rule> {
+        RULES.into_iter().chain(LOOSE).map(|(_, rule)| rule)
+    }
+
+    /// The settling round that each of the wrong rules gives, in their order, with t = 6. The right rule asks for 1, 2,
+    /// 3, 4 crashes by rounds 2 to 5, and for 6 by round 6.
+    #[test]
+    fn wrong_rules_of_the_crashes_so_far() {
+        let rounds = |crashes| -> Vec<usize> { rules().map(|r| r.round(6, crashes)).collect() };
+        // No crash: right is 2, and so is B. The fifth asks for none in round 2, and for one in round 3.
+        assert_eq!(rounds(&[0; 8]), [2, 2, 2, 2, 3, 2, 2]);
+        // One crash by each round: right is 3, and so is B.
+        assert_eq!(rounds(&[2, 0, 0, 0, 0, 0, 0, 0]), [2, 2, 3, 3, 4, 3, 3]);
+        // By rounds 2 to 6: 1, 2, 3, 4, 5. Right is 6, and so is B.
+        assert_eq!(rounds(&[2, 3, 4, 5, 6, 0, 0, 0]), [2, 2, 6, 7, 6, 6, 6]);
+        // By rounds 2 to 6: 1, 1, 4, 4, 4. Right is 3, and B is 6.
+        assert_eq!(rounds(&[1, 4, 4, 4, 0, 0, 0, 0]), [2, 3, 3, 3, 6, 6, 6]);
+        // Six crashes by each round: right is 7, and so is B.
+        assert_eq!(rounds(&[1, 1, 1, 1, 1, 1, 0, 0]), [7, 7, 6, 7, 7, 7, 7]);
+    }
+
+    /// The places of the wrong rules that let a run pass in which a process decides late; the right rule doesn't.
+    fn let_pass(schedule: &Schedule, i: usize, round: u8) -> Vec<usize> {
+        let mut run = play(schedule, Member::after);
+        assert_eq!(RULE.check(schedule, &run), Ok(()));
+        run.rounds[i - 1] = round;
+        assert!(RULE.check(schedule, &run).is_err());
+        let passed = rules().map(|rule| rule.check(schedule, &run).is_ok());
+        let of_place = passed.enumerate().filter(|(_, passed)| *passed);
+        of_place.map(|(place, _)| place).collect()
+    }
+
+    /// All four rules that say too little.
+    #[test]
+    fn wrong_rules_that_let_a_wrong_run_pass() {
+        // Two crashes by round 3 = t, and a third in round 4. B is 4.
+        let mut schedule = Schedule::quiet(5, 3);
+        schedule.crashes = vec![1, 0, 0, 2, 4];
+        schedule.reaches[0] = 0b11110;
+        assert_eq!(let_pass(&schedule, 3, 4), [3, 5, 6]);
+        // One crash by round 3, and three in round 4. B is 6.
+        let mut schedule = Schedule::quiet(8, 6);
+        schedule.crashes[..4].copy_from_slice(&[1, 4, 4, 4]);
+        schedule.reaches[0] = 0b1111_1110;
+        assert_eq!(let_pass(&schedule, 8, 4), [4, 5, 6]);
     }
 
     /// The count and the last process looked at of each of the wrong counts, in their order; (7, 7) for refusal 7.
