@@ -3,22 +3,24 @@
 use mathlib.Core.Path.{_≡_, refl, sym, ap, _∙_}
 use mathlib.Core.Logic.{inl, inr, _≢_}
 use Prim.Native.Nat.{ℕ, suc, _+_, _≤_, _<_}
-use native.Mathlib.Nat.{eq-zero-or-pos}
 use native.Mathlib.Omega.{arith}
+use Rattle.laws.proofs.Counting.{split}
 use Rattle.schedule.specs.Schedule.{Schedule}
 use Rattle.schedule.specs.Questions.{Rules}
 use Rattle.run.specs.Protocol.{fcwfa}
 use Rattle.run.specs.Run.{stateAt, after, final}
-use Rattle.run.specs.Report.{report}
-use Rattle.run.specs.Demand.{Decides, CompletesUndecided}
-use Rattle.run.specs.CrashesSoFar.{CrashesSoFar, LastRound}
+use Rattle.run.specs.Report.{roundOf, report}
+use Rattle.run.specs.Demand.{Completes, Decides}
+use Rattle.run.specs.CrashesSoFar.{settlingOf, CrashesSoFar, LastRound, Settles}
 use Rattle.run.specs.Given.{Gives, GivesBy, GivenNoneBy, GivenDemand3, GivenPromises}
 use Rattle.run.proofs.States.{range, stays}
+use Rattle.run.proofs.CrashRounds.{living}
 use Rattle.run.proofs.FcwfaRun.{runWorld, laws}
 use Rattle.run.proofs.CrashesSoFar.{by-crashes-so-far, by-last-round}
 use Rattle.run.proofs.RoundB.{b-high, settles-follows}
 use Rattle.run.proofs.Demand.{B, by-round-b, end-is, demand-3}
-use Rattle.run.proofs.Reported.{reported}
+use Rattle.run.proofs.Reported.{rounds-read, reported}
+use Rattle.run.proofs.Deciders.{deciders}
 
 module _ (s : Schedule) (ok : Rules s) where
   gives : (i v r : ℕ) → Decides fcwfa s i v r → Gives s (report fcwfa s) i v r
@@ -67,10 +69,36 @@ module _ (s : Schedule) (ok : Rules s) where
   given-last : LastRound s (GivenNoneBy s (report fcwfa s))
   given-last i g = by-last-round s ok i (reported s ok .none-given (s .t + 1) i (omega arith) g)
 
+  given-settles : Settles s (GivenNoneBy s (report fcwfa s))
+  given-settles = settles-follows s (GivenNoneBy s (report fcwfa s)) given-so-far given-last (ok .few)
+
+  -- whoever decides completes its round, and so every round before it: a process that decided after the settling round would complete that undecided
+  last-settled : report fcwfa s .last ≤ settlingOf s
+  last-settled =
+      let i = deciders s ok .last in
+      let d = deciders s ok .last-is in
+      let l = d .process in
+      let named = d .reported in
+      let p : roundOf (final fcwfa s) i ≢ 0 = d .decides in
+      let e = ap (λ m. m .decided) (end-is s ok i) in
+      elim (split (report fcwfa s .last) (settlingOf s)) [
+        | inl h ↦ h
+        | inr late ↦
+            elim (range (runWorld s) (laws s ok) (suc (s .t)) (omega arith) i l) [
+              | inl z ↦ absurd (omega arith)
+              | inr made ↦
+                  let alive = made .alive in
+                  let c : Completes s (settlingOf s) i = record { process = l; completed = living s (settlingOf s) i (omega arith) } in
+                  let read = rounds-read fcwfa s i in
+                  absurd (given-settles .decided i (record { completes-it = c; none-by = inr (omega arith) }))
+            ]
+      ]
+
   pub given-promises : GivenPromises s (report fcwfa s)
   given-promises = record {
     demand-3 = given-demand-3;
     crashes-so-far = given-so-far;
     last-round = given-last;
-    settles = settles-follows s (GivenNoneBy s (report fcwfa s)) given-so-far given-last (ok .few);
+    settles = given-settles;
+    last-settled = last-settled;
   }

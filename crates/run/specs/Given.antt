@@ -7,7 +7,7 @@ use lib.ListN.{getD}
 use Rattle.schedule.specs.Schedule.{Schedule, voteOf}
 use Rattle.run.specs.Report.{Report}
 use Rattle.run.specs.Demand.{Completes, roundB, mostMessages, SomeVotedZero}
-use Rattle.run.specs.CrashesSoFar.{CrashesSoFar, LastRound, Settles}
+use Rattle.run.specs.CrashesSoFar.{settlingOf, CrashesSoFar, LastRound, Settles}
 
 module _ (s : Schedule) (given : Report) where
   -- the tables give process i the decision v, in round r, not 0
@@ -54,3 +54,5 @@ module _ (s : Schedule) (given : Report) where
     -- every process that completes round t + 1 is given a decision by then, and so is every one that completes the settling round
     pub last-round : LastRound s GivenNoneBy
     pub settles : Settles s GivenNoneBy
+    -- so the last round that is given is at most the settling round
+    pub last-settled : given .last ≤ settlingOf s
