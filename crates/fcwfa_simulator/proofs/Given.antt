@@ -1,4 +1,4 @@
--- Demand 3 of the numbers, from demand 3 of the answer. Assumes nothing.
+-- The promises of the numbers, from those of the answer. Assumes nothing.
 use mathlib.Core.Path.{_≡_, sym, subst}
 use Prim.Native.Nat.{ℕ}
 use mathlib.Core.List.{List}

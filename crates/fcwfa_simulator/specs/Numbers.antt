@@ -29,7 +29,7 @@ pub record CountsNumbers : Type 0 where
   -- in the heading's order, "f first last messages": those of case D
   pub in-order : countsNumbers (record { f = 1; first = 2; last = 3; messages = 37 }) ≡ 1 ∷ 2 ∷ 3 ∷ 37 ∷ []
 
--- Demand 3 and the crashes so far of the numbers as given: wherever the call answers 0, with the counts and the two tables after the call.
+-- What is promised of what is given, of the numbers: wherever the call answers 0, with the counts and the two tables after the call.
 pub record NumbersKeepPromises (s : Schedule) (number : ℕ) (counts decisions rounds : List ℕ) : Type 0 where
   pub kept : number ≡ 0 → GivenPromises s (givenBy (countsIn counts) decisions rounds)
 

@@ -115,7 +115,7 @@ counts written {r} e fits =
     let long : length (r .bytes) ≡ outputSize = ap (λ (x : Output). length (x .bytes)) e ∙ (omega arith) in
     (omega arith, sym (length-take-le (r .length) (r .bytes) (omega arith)))
 
--- Demand 3 of the bytes that are answered.
+-- The promises of the bytes that are answered.
 pub keeps-promises : (text : List ℕ) (r : Output) → r ≡ outputIs (outputOf fcwfa text largest longest) → r .length ≤ outputSize → OutputKeepsPromises text r
 keeps-promises text r e fits =
     let written = outputOf fcwfa text largest longest in

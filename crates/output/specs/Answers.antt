@@ -22,6 +22,6 @@ outputSize = longest + 64
 abbrev pub outputIs : List ℕ → Output
 outputIs written = record { bytes = written ++ zeros (outputSize - length written); length = length written }
 
--- Demand 3 and the crashes so far of what is printed: wherever the text is accepted, of the bytes that are answered.
+-- What is promised of what is printed: wherever the text is accepted, of the bytes that are answered.
 pub record OutputKeepsPromises (text : List ℕ) (r : Output) : Type 0 where
   pub kept : (s : Schedule) → textAnswer text largest longest ≡ accepted s → PrintsPromises s (take (r .length) (r .bytes))

@@ -1,7 +1,7 @@
 -- Some process decides: at most t of the n > t processes crash, and whoever does not has decided after round t + 1. So the loop that looks for the
 -- first decider finds one that goes before every other, which never crashes if any of its round does not, and the last round is that of a decider.
 -- Assumes nothing.
-use mathlib.Core.Path.{_≡_, refl, sym, ap, _∙_}
+use mathlib.Core.Path.{_≡_, refl, sym, ap, _∙_, fun-ext}
 use mathlib.Core.Logic.{_⊎_, inl, inr, _≢_}
 use mathlib.Core.Bool.{true, false, not, _||_, true≢false}
 use Prim.Native.Nat.{ℕ, zero, suc, _-_, _<_}
@@ -20,12 +20,13 @@ use Rattle.schedule.specs.Questions.{Rules}
 use Rattle.schedule.proofs.Crashes.{some-survives}
 use Rattle.run.specs.Protocol.{fcwfa}
 use Rattle.run.specs.Run.{final}
-use Rattle.run.specs.Report.{roundOf, before, firstWith, firstOf, lastOf}
-use Rattle.run.specs.Facts.{FirstIs, SurvivorsAhead, LastIs, Deciders}
+use Rattle.run.specs.Report.{Report, givenRound, roundOf, before, firstWith, firstOf, lastOf, report}
+use Rattle.run.specs.Deciders.{FirstIs, SurvivorsAhead, LastIs, Deciders}
 use Rattle.run.proofs.States.{last-round}
 use Rattle.run.proofs.CrashRounds.{round-never}
 use Rattle.run.proofs.FcwfaRun.{runWorld, laws}
 use Rattle.run.proofs.Demand.{end-is}
+use Rattle.run.proofs.Reported.{rounds-read}
 use Rattle.run.proofs.Before.{never-crashes, crashes-once, Before, sooner, survivor, lower, before-is, is-before, before-trans, before-or}
 
 module _ (C R : ℕ → ℕ) where
@@ -96,12 +97,9 @@ module _ (C R : ℕ → ℕ) where
   found-all zero = none refl (λ j l. absurd (not-suc-le-zero l))
   found-all (suc k) = found-step k (fold k (firstWith C R) 0) (found-all k)
 
-module _ (s : Schedule) where
-  abbrev ends : ℕ → ℕ
-  ends = roundOf (final fcwfa s)
-
-  -- the order alone: nothing else of the run is used
-  pub survivors-ahead : (i : ℕ) → FirstIs s i → SurvivorsAhead s i
+-- the order alone: nothing of a run is used
+module _ (s : Schedule) (given : Report) where
+  pub survivors-ahead : (i : ℕ) → FirstIs s given i → SurvivorsAhead s given i
   survivors-ahead i first =
       record {
         smallest = λ k l d.
@@ -143,53 +141,63 @@ module _ (s : Schedule) where
             ];
       }
     where
-      decides : ends i ≢ 0
+      decides : givenRound given i ≢ 0
       decides = first .decides
 
-      others : (k : ℕ) → k < s .n → ends k ≢ 0 → (k ≡ i) ⊎ Before (crashOf s) ends i k
+      others : (k : ℕ) → k < s .n → givenRound given k ≢ 0 → (k ≡ i) ⊎ Before (crashOf s) (givenRound given) i k
       others k l d =
           elim (true-or-false (eqb k i)) [
             | inl e ↦ inl (eqb-true k i e)
-            | inr e ↦ inr (is-before (crashOf s) ends i k (first .goes-before k l (eqb-false k i e) d))
+            | inr e ↦ inr (is-before (crashOf s) (givenRound given) i k (first .goes-before k l (eqb-false k i e) d))
           ]
 
-  module _ (ok : Rules s) where
-    -- a process that never crashes decides
-    some-decides : Some (s .n) λ i. ends i ≢ 0
-    some-decides =
-        let x = some-survives s ok in
-        let never = round-never s (x .0) (x .2) in
-        let p = last-round (runWorld s) (laws s ok) (x .0) (x .1) (omega arith) in
-        let e = ap (λ m. m .decided) (end-is s ok (x .0)) in
-        (x .0, x .1, λ z. omega arith)
+module _ (s : Schedule) (ok : Rules s) where
+  -- the decided rounds of the report are those of the run
+  abbrev ends : ℕ → ℕ
+  ends = givenRound (report fcwfa s)
 
-    first-of-run : (i : ℕ) × FirstIs s i
-    unfolding firstOf
-    first-of-run =
-        elim (found-all (crashOf s) ends (s .n)) [
-          | none e all ↦ absurd (some-decides .2 (all (some-decides .0) (some-decides .1)))
-          | one i e l d first ↦ (
-            i,
-            record {
-              reported = e ∙ sym (add-one i);
-              process = l;
-              decides = d;
-              goes-before = λ k kl ne dk. before-is (crashOf s) ends i k (first k kl ne dk);
-            },
-          )
-        ]
+  ends-are : roundOf (final fcwfa s) ≡ ends
+  ends-are = fun-ext (λ i. sym (rounds-read fcwfa s i))
 
-    last-of-run : (i : ℕ) × LastIs s i
-    unfolding lastOf
-    last-of-run =
-        let high = largest-high ends (s .n) in
-        let some = some-decides in
-        let h = high (some .0) (some .1) in
-        let d : ends (some .0) ≢ 0 = some .2 in
-        elim (largest-is ends (s .n)) [
-          | inl z ↦ absurd (omega arith)
-          | inr x ↦ (x .0, record { reported = x .2; process = x .1; decides = λ z. let y = x .2 in omega arith; latest = high })
-        ]
+  -- a process that never crashes decides
+  some-decides : Some (s .n) λ i. ends i ≢ 0
+  some-decides =
+      let x = some-survives s ok in
+      let never = round-never s (x .0) (x .2) in
+      let p = last-round (runWorld s) (laws s ok) (x .0) (x .1) (omega arith) in
+      let e = ap (λ m. m .decided) (end-is s ok (x .0)) in
+      let read = rounds-read fcwfa s (x .0) in
+      (x .0, x .1, λ z. omega arith)
 
-    pub deciders : Deciders s
-    deciders = record { first = first-of-run .0; first-is = first-of-run .1; survivors-ahead = survivors-ahead (first-of-run .0) (first-of-run .1); last = last-of-run .0; last-is = last-of-run .1 }
+  first-of-run : (i : ℕ) × FirstIs s (report fcwfa s) i
+  unfolding firstOf
+  first-of-run =
+      elim (found-all (crashOf s) ends (s .n)) [
+        | none e all ↦ absurd (some-decides .2 (all (some-decides .0) (some-decides .1)))
+        | one i e l d first ↦ (
+          i,
+          record {
+            named = ap (λ (R : ℕ → ℕ). firstOf (crashOf s) R (s .n)) ends-are ∙ e ∙ sym (add-one i);
+            process = l;
+            decides = d;
+            goes-before = λ k kl ne dk. before-is (crashOf s) ends i k (first k kl ne dk);
+          },
+        )
+      ]
+
+  last-of-run : (i : ℕ) × LastIs s (report fcwfa s) i
+  unfolding lastOf
+  last-of-run =
+      let high = largest-high ends (s .n) in
+      let same = ap (λ (R : ℕ → ℕ). lastOf R (s .n)) ends-are in
+      let some = some-decides in
+      let h = high (some .0) (some .1) in
+      let d : ends (some .0) ≢ 0 = some .2 in
+      elim (largest-is ends (s .n)) [
+        | inl z ↦ absurd (omega arith)
+        | inr x ↦
+            (x .0, record { named = same ∙ x .2; process = x .1; decides = λ z. let y = x .2 in omega arith; latest = λ k l. let g = high k l in omega arith })
+      ]
+
+  pub deciders : Deciders s (report fcwfa s)
+  deciders = record { first = first-of-run .0; first-is = first-of-run .1; survivors-ahead = survivors-ahead s (report fcwfa s) (first-of-run .0) (first-of-run .1); last = last-of-run .0; last-is = last-of-run .1 }

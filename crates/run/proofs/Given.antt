@@ -9,7 +9,7 @@ use Rattle.schedule.specs.Schedule.{Schedule}
 use Rattle.schedule.specs.Questions.{Rules}
 use Rattle.run.specs.Protocol.{fcwfa}
 use Rattle.run.specs.Run.{stateAt, after, final}
-use Rattle.run.specs.Report.{roundOf, report}
+use Rattle.run.specs.Report.{givenRound, report}
 use Rattle.run.specs.Demand.{Completes, Decides}
 use Rattle.run.specs.CrashesSoFar.{settlingOf, CrashesSoFar, LastRound, Settles}
 use Rattle.run.specs.Given.{Gives, GivesBy, GivenNoneBy, GivenDemand3, GivenPromises}
@@ -78,8 +78,9 @@ module _ (s : Schedule) (ok : Rules s) where
       let i = deciders s ok .last in
       let d = deciders s ok .last-is in
       let l = d .process in
-      let named = d .reported in
-      let p : roundOf (final fcwfa s) i ≢ 0 = d .decides in
+      let named = d .named in
+      let p : givenRound (report fcwfa s) i ≢ 0 = d .decides in
+      let read = rounds-read fcwfa s i in
       let e = ap (λ m. m .decided) (end-is s ok i) in
       elim (split (report fcwfa s .last) (settlingOf s)) [
         | inl h ↦ h
@@ -89,7 +90,6 @@ module _ (s : Schedule) (ok : Rules s) where
               | inr made ↦
                   let alive = made .alive in
                   let c : Completes s (settlingOf s) i = record { process = l; completed = living s (settlingOf s) i (omega arith) } in
-                  let read = rounds-read fcwfa s i in
                   absurd (given-settles .decided i (record { completes-it = c; none-by = inr (omega arith) }))
             ]
       ]
@@ -101,4 +101,5 @@ module _ (s : Schedule) (ok : Rules s) where
     last-round = given-last;
     settles = given-settles;
     last-settled = last-settled;
+    deciders = deciders s ok;
   }

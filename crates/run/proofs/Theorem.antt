@@ -15,7 +15,6 @@ use Rattle.run.proofs.CrashesSoFar.{by-crashes-so-far, by-last-round}
 use Rattle.run.proofs.RoundB.{settles-follows}
 use Rattle.run.proofs.LeftOpen.{no-sooner}
 use Rattle.run.proofs.Demand.{demand-3}
-use Rattle.run.proofs.Deciders.{deciders}
 use Rattle.run.proofs.Reported.{reported}
 use Rattle.run.proofs.NoneRefused.{none-refused}
 use Rattle.run.proofs.OwnAnswers.{own-answers}
@@ -41,7 +40,6 @@ accepted-run s limit answers e =
       settles = settles-follows s (CompletesUndecided fcwfa s) (by-crashes-so-far s (a .rules)) (by-last-round s (a .rules)) (a .rules .few);
       no-sooner = λ r l. no-sooner s (a .rules) r (omega arith);
       reported = reported s (a .rules);
-      deciders = deciders s (a .rules);
       none-refused = none-refused s (a .rules) limit (a .n-high);
       own-answers = own-answers fcwfa limit s (none-refused s (a .rules) limit (a .n-high));
       silence = let low = a .n-low in silent-from fcwfa s (omega arith) mute-stops;

@@ -1,5 +1,5 @@
 -- What holds of every run besides demand 3: what its definitions come to, process by process, and the facts that the bench and its readers rely
--- on. Proved in proofs/Rounds.antt, Demand.antt, Deciders.antt, Reported.antt, NoneRefused.antt, OwnAnswers.antt and Silence.antt. Assumes nothing.
+-- on. Proved in proofs/Rounds.antt, Demand.antt, Reported.antt, NoneRefused.antt, OwnAnswers.antt and Silence.antt. Assumes nothing.
 use Prim.Native.Nat.{ℕ, suc, _+_, _-_, _≤_, _<_}
 use mathlib.Core.Path.{_≡_}
 use mathlib.Core.Logic.{_≢_}
@@ -12,8 +12,8 @@ use Rattle.member.specs.Saying.{nothing}
 use Rattle.sets.specs.Sets.{names}
 use Rattle.schedule.specs.Schedule.{Schedule, voteOf, crashOf, reachOf, crashedBy}
 use Rattle.run.specs.Protocol.{Protocol, fcwfa, byCalls}
-use Rattle.run.specs.Run.{stateAt, codeHeard, rowOf, statesAfter, after, final}
-use Rattle.run.specs.Report.{roundOf, before, sent, sentAfter, report}
+use Rattle.run.specs.Run.{stateAt, codeHeard, rowOf, statesAfter, after}
+use Rattle.run.specs.Report.{givenRound, sent, sentAfter, report}
 use Rattle.run.specs.Demand.{Completes, Decides, CompletesUndecided, SomeVotedZero, Demand3}
 use Rattle.run.specs.CrashesSoFar.{settlingOf, CrashesSoFar, LastRound, Settles, LeftOpen}
 use Rattle.run.specs.Given.{GivenNoneBy, GivenPromises}
@@ -66,44 +66,12 @@ pub record Reported (s : Schedule) : Type 0 where
   pub crashes : report fcwfa s .f ≡ crashedBy s (s .t + 1)
   pub decisions-long : length (report fcwfa s .decisions) ≡ s .n
   pub rounds-long : length (report fcwfa s .rounds) ≡ s .n
-  pub decided : (i v r : ℕ) → Decides fcwfa s i v r → (getD (report fcwfa s .decisions) i 2 ≡ v) × (getD (report fcwfa s .rounds) i 0 ≡ r) × (v ≤ 1)
-  pub decides : (i : ℕ) → i < s .n → getD (report fcwfa s .rounds) i 0 ≢ 0
-      → Decides fcwfa s i (getD (report fcwfa s .decisions) i 2) (getD (report fcwfa s .rounds) i 0)
-  pub undecided : (i : ℕ) → i < s .n → getD (report fcwfa s .rounds) i 0 ≡ 0 → getD (report fcwfa s .decisions) i 2 ≡ 2
+  pub decided : (i v r : ℕ) → Decides fcwfa s i v r → (getD (report fcwfa s .decisions) i 2 ≡ v) × (givenRound (report fcwfa s) i ≡ r) × (v ≤ 1)
+  pub decides : (i : ℕ) → i < s .n → givenRound (report fcwfa s) i ≢ 0
+      → Decides fcwfa s i (getD (report fcwfa s .decisions) i 2) (givenRound (report fcwfa s) i)
+  pub undecided : (i : ℕ) → i < s .n → givenRound (report fcwfa s) i ≡ 0 → getD (report fcwfa s .decisions) i 2 ≡ 2
   pub given-none : (r i : ℕ) → r ≤ s .t + 1 → CompletesUndecided fcwfa s r i → GivenNoneBy s (report fcwfa s) r i
   pub none-given : (r i : ℕ) → r ≤ s .t + 1 → GivenNoneBy s (report fcwfa s) r i → CompletesUndecided fcwfa s r i
-
--- process i is the first decider, and its number is reported: it decides, and goes before every other process that does
-pub record FirstIs (s : Schedule) (i : ℕ) : Type 0 where
-  pub reported : report fcwfa s .first ≡ i + 1
-  pub process : i < s .n
-  pub decides : roundOf (final fcwfa s) i ≢ 0
-  pub goes-before : (k : ℕ) → k < s .n → k ≢ i → roundOf (final fcwfa s) k ≢ 0 → before (crashOf s) (roundOf (final fcwfa s)) i k ≡ true
-
--- What follows of the first decider from that alone: its round is the smallest decided round; and if any process that never crashes decides in it, the
--- first never crashes ("a crashed one doesn't reply"). Proved in proofs/Deciders.antt:
--- `survivors-ahead : (s : Schedule) (i : ℕ) → FirstIs s i → SurvivorsAhead s i`.
-pub record SurvivorsAhead (s : Schedule) (i : ℕ) : Type 0 where
-  pub smallest : (k : ℕ) → k < s .n → roundOf (final fcwfa s) k ≢ 0 → roundOf (final fcwfa s) i ≤ roundOf (final fcwfa s) k
-  pub survives : (k : ℕ) → k < s .n → roundOf (final fcwfa s) k ≡ roundOf (final fcwfa s) i → crashOf s k ≡ 0 → crashOf s i ≡ 0
-  -- "and only then the lower number": of those in its round that never crash, and, where it crashes itself, of all in its round
-  pub lowest-survivor : (k : ℕ) → k < s .n → roundOf (final fcwfa s) k ≡ roundOf (final fcwfa s) i → crashOf s k ≡ 0 → i ≤ k
-  pub lowest-of-all : (k : ℕ) → k < s .n → roundOf (final fcwfa s) k ≡ roundOf (final fcwfa s) i → crashOf s i ≢ 0 → i ≤ k
-
--- process i is one that decides in the reported last round, and none decides later
-pub record LastIs (s : Schedule) (i : ℕ) : Type 0 where
-  pub reported : report fcwfa s .last ≡ roundOf (final fcwfa s) i
-  pub process : i < s .n
-  pub decides : roundOf (final fcwfa s) i ≢ 0
-  pub latest : (k : ℕ) → k < s .n → roundOf (final fcwfa s) k ≤ report fcwfa s .last
-
--- Some process decides, so first and last are never empty.
-pub record Deciders (s : Schedule) : Type 0 where
-  pub first : ℕ
-  pub first-is : FirstIs s first
-  pub survivors-ahead : SurvivorsAhead s first
-  pub last : ℕ
-  pub last-is : LastIs s last
 
 -- In a run no call of a member is refused, for any limit that lets n pass: no opening, no saying, and no row that a member hears.
 pub record NoneRefused (P : Protocol) (limit : ℕ) (s : Schedule) : Type 0 where
@@ -129,11 +97,10 @@ pub record RunPromises (limit : ℕ) (s : Schedule) : Type 0 where
   -- and no round before the settling round is one, by the crash rounds alone
   pub no-sooner : (r : ℕ) → r < settlingOf s → LeftOpen s r
   pub reported : Reported s
-  pub deciders : Deciders s
   pub none-refused : NoneRefused fcwfa limit s
   pub own-answers : OwnAnswers fcwfa limit s
   -- A round in which nothing is sent is followed by nothing else, so a run may end there: n is at least 4, so a completing sender that says something
   -- adds at least 3.
   pub silence : (r : ℕ) → sentAfter fcwfa s r ≡ 0 → SilentFrom fcwfa s r
-  -- demand 3 and the crashes so far of the report itself, on its counts and its tables
+  -- demand 3, the crashes so far and the deciders of the report itself, on its counts and its tables
   pub given : GivenPromises s (report fcwfa s)

@@ -1,12 +1,13 @@
--- What is promised of what the bench gives for a schedule, on its counts and its two tables alone: demand 3, and the crashes so far. Proved in
+-- What is promised of what the bench gives for a schedule, on its counts and its two tables alone: demand 3, the crashes so far, the deciders. Proved in
 -- proofs/Given.antt: `given-promises : (s : Schedule) → Rules s → GivenPromises s (report fcwfa s)`. Assumes nothing.
 use Prim.Native.Nat.{ℕ, _≤_, _<_}
 use mathlib.Core.Path.{_≡_}
 use mathlib.Core.Logic.{_⊎_, _≢_}
 use lib.ListN.{getD}
 use Rattle.schedule.specs.Schedule.{Schedule, voteOf}
-use Rattle.run.specs.Report.{Report}
+use Rattle.run.specs.Report.{Report, givenRound}
 use Rattle.run.specs.Demand.{Completes, roundB, mostMessages, SomeVotedZero}
+use Rattle.run.specs.Deciders.{Deciders}
 use Rattle.run.specs.CrashesSoFar.{settlingOf, CrashesSoFar, LastRound, Settles}
 
 module _ (s : Schedule) (given : Report) where
@@ -14,7 +15,7 @@ module _ (s : Schedule) (given : Report) where
   pub record Gives (i v r : ℕ) : Type 0 where
     pub process : i < s .n
     pub decision : getD (given .decisions) i 2 ≡ v
-    pub round : getD (given .rounds) i 0 ≡ r
+    pub round : givenRound given i ≡ r
     pub not-none : r ≢ 0
 
   -- they give it a decision, in round b or before
@@ -27,7 +28,7 @@ module _ (s : Schedule) (given : Report) where
   -- process i completes round r, and they give it no decision by then: its round is 0 or above r
   pub record GivenNoneBy (r i : ℕ) : Type 0 where
     pub completes-it : Completes s r i
-    pub none-by : (getD (given .rounds) i 0 ≡ 0) ⊎ (r < getD (given .rounds) i 0)
+    pub none-by : (givenRound given i ≡ 0) ⊎ (r < givenRound given i)
 
   -- round B by the count f that is given
   abbrev pub givenB : ℕ
@@ -56,3 +57,5 @@ module _ (s : Schedule) (given : Report) where
     pub settles : Settles s GivenNoneBy
     -- so the last round that is given is at most the settling round
     pub last-settled : given .last ≤ settlingOf s
+    -- some process is given a decision, and which is the first of these and which round the last
+    pub deciders : Deciders s given

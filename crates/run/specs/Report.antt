@@ -20,6 +20,10 @@ pub record Report : Type 0 where
   pub decisions : List ℕ
   pub rounds : List ℕ
 
+-- the decided round that is given for process i, 0 for none
+abbrev pub givenRound : Report → ℕ → ℕ
+givenRound given i = getD (given .rounds) i 0
+
 -- What a sender adds to the messages of round r, of n processes, with its crash round, its reach and the code that it says: "A completing sender
 -- that says something now adds n − 1. A crash adds the ones of its reach as before", which is "if it says something; all others add 0". The copy to
 -- itself "never touches the wire".

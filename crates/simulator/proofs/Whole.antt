@@ -1,5 +1,5 @@
 -- The whole call. A refused one changes nothing and gives no counts. An accepted one gives the report of its schedule: the tables and the counts are
--- those of the states at the end of the run, and demand 3 holds of the report. Assumes nothing.
+-- those of the states at the end of the run, and the promises hold of the report. Assumes nothing.
 use mathlib.Core.Path.{_≡_, sym, ap, _∙_, subst}
 use mathlib.Core.List.{List}
 use mathlib.Core.Bool.{Bool, cond}
@@ -157,7 +157,7 @@ module _ (P : Protocol) (s : Schedule) (decisions rounds : List ℕ) {ran : Ran}
             rounds = rounds-are r i;
           }
 
--- and demand 3 holds of the report of FCWFA
+-- and the promises hold of the report of FCWFA
 pub completed-keeps : (s : Schedule) (answers : Bool) {c : Counts} {decisions rounds : List ℕ} → question s largest answers ≡ 0
     → ((k : Counts) → simulatedIs (Completed c) ≡ accepted k → givenBy k decisions rounds ≡ report fcwfa s) → AnswersKeepPromises s (Completed c) decisions rounds
 completed-keeps s answers passed is =

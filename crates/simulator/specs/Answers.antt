@@ -52,7 +52,7 @@ givenBy counts decisions rounds = record {
   rounds = rounds;
 }
 
--- Demand 3 and the crashes so far of the answers as given: wherever the answer is one of counts, with those counts and the two tables after the call.
+-- What is promised of what is given, of the answers: wherever the answer is one of counts, with those counts and the two tables after the call.
 pub record AnswersKeepPromises (s : Schedule) (r : Simulated) (decisions rounds : List ℕ) : Type 0 where
   pub kept : (counts : Counts) → simulatedIs r ≡ accepted counts → GivenPromises s (givenBy counts decisions rounds)
 

@@ -19,7 +19,7 @@ use Rattle.text.specs.Written.{textOf}
 use Rattle.text.specs.Reading.{longest, sizesIn, textAnswer}
 use Rattle.text.specs.Output.{reportText, refusalText, outputOf}
 
--- the bytes print what is given for the schedule, and what is given keeps demand 3 and the crashes so far
+-- the bytes print what is given for the schedule, and what is given keeps the promises
 pub record PrintsPromises (s : Schedule) (bytes : List ℕ) : Type 0 where
   pub given : Report
   pub prints : bytes ≡ reportText (s .n) (s .t) given
@@ -60,7 +60,7 @@ pub record OutputPromises (P : Protocol) (limit most : ℕ) : Type 1 where
   pub refusal-says : (text : List ℕ) (number k : ℕ) → textAnswer text limit most ≡ refused number k
       → (m j : ℕ) (line : List ℕ) → outputOf P text limit most ≡ refusalText m j line → (number ≡ m) × (k ≡ j)
 
--- Under FCWFA: demand 3 and the crashes so far of what is printed for an accepted text.
+-- Under FCWFA: what is promised of what is printed for an accepted text.
 pub record PromisesPrinted (limit most : ℕ) : Type 0 where
   pub printed : (text : List ℕ) (s : Schedule) → textAnswer text limit most ≡ accepted s → PrintsPromises s (outputOf fcwfa text limit most)
 
