@@ -1,6 +1,6 @@
 -- Demand 3 holds of the run of every schedule that keeps the rules, for every n and t. Round B follows from the crashes so far; each other part is what
 -- the files on votes, agreement and messages show of the run as plain numbers. Assumes nothing.
-use mathlib.Core.Path.{_≡_, refl, ap, _∙_}
+use mathlib.Core.Path.{_≡_, ap, _∙_}
 use mathlib.Core.Logic.{inl, inr, _≢_}
 use Prim.Native.Nat.{ℕ, suc, _-_, _*_, _≤_, _<_, min}
 use native.Mathlib.Nat.{eq-zero-or-pos, le-trans, le-of-eq, mul-comm, mul-le-mul}

@@ -3,16 +3,15 @@
 use mathlib.Core.Path.{_≡_}
 use mathlib.Core.Logic.{inl, inr}
 use mathlib.Core.Bool.{not}
-use Prim.Native.Nat.{ℕ, zero, suc, _+_, _≤_, _<_}
-use native.Mathlib.Nat.{eq-zero-or-pos}
+use Prim.Native.Nat.{ℕ, suc, _+_, _≤_, _<_}
 use native.Mathlib.Omega.{arith}
 use lib.Dec.{leb}
 use borrow.Author.Tests.{le-leb, not-true}
-use Rattle.laws.proofs.Counting.{split, count-mono, count-not}
+use Rattle.laws.proofs.Counting.{count-mono, count-not}
 use Rattle.run.proofs.OneRound.{isEstimate, estimatesIn, decides, waits}
-use Rattle.run.proofs.World.{World, RoundLaws, DecisionRules, Plays, NotTold, crashes, crashes-mono}
+use Rattle.run.proofs.World.{World, RoundLaws, DecisionRules, Plays, NotTold, crashes}
 use Rattle.run.proofs.Codes.{not-estimate}
-use Rattle.run.proofs.States.{Way, way, stays-put, told, not-told, undecided, missing}
+use Rattle.run.proofs.States.{Way, way, stays-put, told, not-told, missing}
 
 module _ (w : World) where
   open World w using (n, t, start, crash, estimate, decided, code)

@@ -1,6 +1,6 @@
 -- What is promised of what is given: the tables hold what each process decides, and whoever does not complete a round undecided is given a decision by
 -- then, since a decision stays and is never made later than the round after which it stands. Assumes nothing.
-use mathlib.Core.Path.{_≡_, refl, sym, ap, _∙_}
+use mathlib.Core.Path.{refl, sym, ap, _∙_}
 use mathlib.Core.Logic.{inl, inr, _≢_}
 use Prim.Native.Nat.{ℕ, suc, _+_, _≤_, _<_}
 use native.Mathlib.Omega.{arith}

@@ -3,7 +3,7 @@
 -- the settling round is the first of that kind. Assumes nothing.
 use mathlib.Core.Path.{_≡_, subst}
 use mathlib.Core.Logic.{inl, inr}
-use Prim.Native.Nat.{ℕ, _+_, _≤_, _<_}
+use Prim.Native.Nat.{ℕ, _+_, _≤_}
 use native.Mathlib.Omega.{arith}
 use lib.Dec.{leb}
 use borrow.Author.Tests.{leb-true, leb-false}
@@ -12,7 +12,7 @@ use Rattle.laws.proofs.Counting.{split}
 use Rattle.schedule.specs.Schedule.{Schedule, crashCount, crashedBy}
 use Rattle.schedule.proofs.Crashes.{crashed-within}
 use Rattle.run.specs.Demand.{roundB}
-use Rattle.run.specs.CrashesSoFar.{settlingRound, settlingOf, CrashesSoFar, Nobody, LastRound, RoundBFollows, SettlesFollows}
+use Rattle.run.specs.CrashesSoFar.{settlingOf, CrashesSoFar, Nobody, LastRound, RoundBFollows, SettlesFollows}
 use Rattle.run.proofs.Settling.{TooFew, settling-too-few, settling-least}
 
 -- round r has too few crashes for a process to complete it undecided, or is the last

@@ -2,7 +2,7 @@
 -- decided for that reason, for every n and t. `Undecided r i` says that process i completes round r undecided: in the run that is
 -- `CompletesUndecided fcwfa s`, and by what is given for it `GivenNoneBy s given`. Proved of both in proofs/Theorem.antt (`RunPromises`), and what follows
 -- from it, whatever `Undecided` is, in proofs/RoundB.antt. Assumes nothing.
-use Prim.Native.Nat.{ℕ, _+_, _-_, _≤_, _<_}
+use Prim.Native.Nat.{ℕ, _+_, _-_, _≤_}
 use mathlib.Core.Path.{_≡_}
 use mathlib.Core.Bool.{Bool, cond}
 use lib.Dec.{ltb}
