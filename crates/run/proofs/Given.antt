@@ -100,6 +100,6 @@ module _ (s : Schedule) (ok : Rules s) where
     crashes-so-far = given-so-far;
     last-round = given-last;
     settles = given-settles;
-    last-settled = last-settled;
+    last-settled = let h = last-settled in omega arith;
     deciders = deciders s ok;
   }
