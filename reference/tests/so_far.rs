@@ -215,7 +215,7 @@ fn a_round_before_t_completed_undecided_with_too_few_crashes() {
     let schedule = worst(6, &[1, 4, 4, 4, 0, 0, 0, 0]);
     let words = "process 8 completes round 3 undecided, with 1 of at least 2 crashes by it";
     broken(&schedule, 8, 4, words);
-    // Without a decision there is no round to be decided by.
+    // No decision at all breaks it too.
     broken(&schedule, 8, 0, words);
     // One that crashes after the round completes it; process 1, which doesn't, has no decision.
     let words = "process 2 completes round 3 undecided, with 1 of at least 2 crashes by it";

@@ -200,4 +200,10 @@ module _ (s : Schedule) (ok : Rules s) where
       ]
 
   pub deciders : Deciders s (report fcwfa s)
-  deciders = record { first = first-of-run .0; first-is = first-of-run .1; survivors-ahead = survivors-ahead s (report fcwfa s) (first-of-run .0) (first-of-run .1); last = last-of-run .0; last-is = last-of-run .1 }
+  deciders = record {
+    first = first-of-run .0;
+    first-is = first-of-run .1;
+    survivors-ahead = survivors-ahead s (report fcwfa s) (first-of-run .0) (first-of-run .1);
+    last = last-of-run .0;
+    last-is = last-of-run .1;
+  }

@@ -13,7 +13,7 @@ use Rattle.run.specs.Protocol.{fcwfa}
 use Rattle.run.specs.Run.{stateAt, after, final}
 use Rattle.run.specs.Report.{messages, report}
 use Rattle.run.specs.Demand.{Completes, Decides, CompletesUndecided, roundB, mostMessages, Demand3}
-use Rattle.run.specs.CrashesSoFar.{Nobody}
+use Rattle.run.specs.CrashesSoFar.{NobodyUndecided}
 use Rattle.run.proofs.World.{crashes}
 use Rattle.run.proofs.States.{stays}
 use Rattle.run.proofs.Votes.{abort, abort-2, commit-2}
@@ -55,7 +55,7 @@ module _ (s : Schedule) (ok : Rules s) where
   abbrev pub B : ℕ
   B = roundB f (s .t)
 
-  pub nobody-by-b : Nobody (CompletesUndecided fcwfa s) B
+  nobody-by-b : NobodyUndecided (CompletesUndecided fcwfa s) B
   nobody-by-b = round-b-follows s (CompletesUndecided fcwfa s) (by-crashes-so-far s ok) (by-last-round s ok) (ok .few)
 
   -- so whoever completes round B has decided by then

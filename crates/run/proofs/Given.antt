@@ -1,5 +1,5 @@
--- What is promised of what is given: the tables hold what each process decides, and whoever does not complete a round undecided is given a decision by
--- then, since a decision stays and is never made later than the round after which it stands. Assumes nothing.
+-- What is promised of what is given: the tables hold what each process decides, and whoever completes a round and has decided by then is given its
+-- decision in that round or before, since a decision stays and is never made later than the round after which it stands. Assumes nothing.
 use mathlib.Core.Path.{refl, sym, ap, _∙_}
 use mathlib.Core.Logic.{inl, inr, _≢_}
 use Prim.Native.Nat.{ℕ, suc, _+_, _≤_, _<_}
@@ -11,13 +11,13 @@ use Rattle.run.specs.Protocol.{fcwfa}
 use Rattle.run.specs.Run.{stateAt, after, final}
 use Rattle.run.specs.Report.{givenRound, report}
 use Rattle.run.specs.Demand.{Completes, Decides}
-use Rattle.run.specs.CrashesSoFar.{settlingOf, CrashesSoFar, LastRound, Settles}
+use Rattle.run.specs.CrashesSoFar.{NobodyUndecided, CrashesSoFar, LastRound, settlingOf}
 use Rattle.run.specs.Given.{Gives, GivesBy, GivenNoneBy, GivenDemand3, GivenPromises}
 use Rattle.run.proofs.States.{range, stays}
 use Rattle.run.proofs.CrashRounds.{living}
 use Rattle.run.proofs.FcwfaRun.{runWorld, laws}
 use Rattle.run.proofs.CrashesSoFar.{by-crashes-so-far, by-last-round}
-use Rattle.run.proofs.RoundB.{b-high, settles-follows}
+use Rattle.run.proofs.RoundB.{b-high, settling-follows}
 use Rattle.run.proofs.Demand.{B, by-round-b, end-is, demand-3}
 use Rattle.run.proofs.Reported.{rounds-read, reported}
 use Rattle.run.proofs.Deciders.{deciders}
@@ -69,8 +69,8 @@ module _ (s : Schedule) (ok : Rules s) where
   given-last : LastRound s (GivenNoneBy s (report fcwfa s))
   given-last i g = by-last-round s ok i (reported s ok .none-given (s .t + 1) i (omega arith) g)
 
-  given-settles : Settles s (GivenNoneBy s (report fcwfa s))
-  given-settles = settles-follows s (GivenNoneBy s (report fcwfa s)) given-so-far given-last (ok .few)
+  settled : NobodyUndecided (GivenNoneBy s (report fcwfa s)) (settlingOf s)
+  settled = settling-follows s (GivenNoneBy s (report fcwfa s)) given-so-far given-last
 
   -- whoever decides completes its round, and so every round before it: a process that decided after the settling round would complete that undecided
   last-settled : report fcwfa s .last ≤ settlingOf s
@@ -90,7 +90,7 @@ module _ (s : Schedule) (ok : Rules s) where
               | inr made ↦
                   let alive = made .alive in
                   let c : Completes s (settlingOf s) i = record { process = l; completed = living s (settlingOf s) i (omega arith) } in
-                  absurd (given-settles .decided i (record { completes-it = c; none-by = inr (omega arith) }))
+                  absurd (settled i (record { completes-it = c; none-by = inr (omega arith) }))
             ]
       ]
 
@@ -99,7 +99,7 @@ module _ (s : Schedule) (ok : Rules s) where
     demand-3 = given-demand-3;
     crashes-so-far = given-so-far;
     last-round = given-last;
-    settles = given-settles;
+    settled = settled;
     last-settled = let h = last-settled in omega arith;
     deciders = deciders s ok;
   }

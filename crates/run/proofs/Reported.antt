@@ -1,5 +1,5 @@
--- The reported f counts the crashes, and the reported tables hold what each process decides and in which round, and 2 and 0 for none. A round there is at
--- most r exactly if the decision stands after round r, since a decision stays and is made in the round that it names. Assumes nothing.
+-- The reported f counts the crashes, and the reported tables hold what each process decides and in which round, and 2 and 0 for none. A round there
+-- that is not 0 is at most r exactly if the decision stands after round r, since a decision stays and is made in the round that it names. Assumes nothing.
 use mathlib.Core.Path.{_≡_, sym, ap, _∙_}
 use mathlib.Core.Logic.{inl, inr, _≢_}
 use Prim.Native.Nat.{ℕ, suc, _+_, _≤_, _<_}
@@ -76,7 +76,9 @@ module _ (s : Schedule) (ok : Rules s) where
         none-by =
             elim (eq-zero-or-pos (ended i)) [
               | inl z ↦ inl (omega arith)
-              | inr p ↦ inr (let later = between (runWorld s) (laws s ok) r (suc (s .t)) i (omega arith) (omega arith) l (h .undecided) (omega arith) in omega arith)
+              | inr p ↦
+                  let later = between (runWorld s) (laws s ok) r (suc (s .t)) i (omega arith) (omega arith) l (h .undecided) (omega arith) in
+                  inr (omega arith)
             ];
       }
 

@@ -1,6 +1,6 @@
--- Round B and the settling round follow from the crashes so far, the last round's rule and f ≤ t. Nothing of a run enters besides: `Undecided` is any
--- relation of rounds and processes of which the two are known. In both rounds there are too few crashes for a process to complete them undecided, and
--- the settling round is the first of that kind. Assumes nothing.
+-- Round B follows from the crashes so far, the last round's rule and f ≤ t, and the settling round from the first two. Nothing of a run enters besides:
+-- `Undecided` is any relation of rounds and processes of which these are known. Either of the two rounds has too few crashes for a process to complete
+-- it undecided, or is the last; and the settling round is the first of that kind. Assumes nothing.
 use mathlib.Core.Path.{_≡_, subst}
 use mathlib.Core.Logic.{inl, inr}
 use Prim.Native.Nat.{ℕ, _+_, _≤_}
@@ -12,12 +12,12 @@ use Rattle.laws.proofs.Counting.{split}
 use Rattle.schedule.specs.Schedule.{Schedule, crashCount, crashedBy}
 use Rattle.schedule.proofs.Crashes.{crashed-within}
 use Rattle.run.specs.Demand.{roundB}
-use Rattle.run.specs.CrashesSoFar.{settlingOf, CrashesSoFar, Nobody, LastRound, RoundBFollows, SettlesFollows}
+use Rattle.run.specs.CrashesSoFar.{NobodyUndecided, CrashesSoFar, LastRound, RoundBFollows, settlingOf, SettlingFollows, WithinB}
 use Rattle.run.proofs.Settling.{TooFew, settling-too-few, settling-least}
 
 -- round r has too few crashes for a process to complete it undecided, or is the last
 nobody-in : (s : Schedule) (Undecided : ℕ → ℕ → Type 0) → CrashesSoFar s Undecided → LastRound s Undecided
-    → (r : ℕ) → TooFew (s .t) (crashedBy s) r → Nobody Undecided r
+    → (r : ℕ) → TooFew (s .t) (crashedBy s) r → NobodyUndecided Undecided r
 nobody-in s Undecided so-far last r few i u =
     elim (split (s .t) r) [
       | inr before ↦
@@ -55,14 +55,13 @@ b-too-few s few =
     ]
 
 pub round-b-follows : RoundBFollows
-round-b-follows s Undecided so-far last few = nobody-in s Undecided so-far last (roundB (crashCount s) (s .t)) (b-too-few s few)
+round-b-follows s Undecided so-far last few = nobody-in s Undecided so-far last (roundB (crashCount s) (s .t)) (b-too-few s (omega arith))
 
-pub settles-follows : SettlesFollows
-settles-follows s Undecided so-far last few =
-    record {
-      decided = nobody-in s Undecided so-far last (settlingOf s) (settling-too-few (s .t) (crashedBy s));
-      within-b = let h = settling-least (s .t) (crashedBy s) (roundB (crashCount s) (s .t)) (b-too-few s few) in omega arith;
-    }
+pub settling-follows : SettlingFollows
+settling-follows s Undecided so-far last = nobody-in s Undecided so-far last (settlingOf s) (settling-too-few (s .t) (crashedBy s))
+
+pub within-b : WithinB
+within-b s few = let h = settling-least (s .t) (crashedBy s) (roundB (crashCount s) (s .t)) (b-too-few s few) in omega arith
 
 -- round B is a round of the run
 pub b-high : (s : Schedule) → crashCount s ≤ s .t → roundB (crashCount s) (s .t) ≤ s .t + 1

@@ -1,6 +1,6 @@
--- The settling round is at most t + 1 and has too few crashes for a process to complete it undecided; and a round q before it has enough: at least q − 1 by
--- q if q is from 2 to t − 1, and at least t by t if q is t. So it is the least with too few. This is what its definition comes to, of any t and of any
--- crashes. Assumes nothing.
+-- The settling round has too few crashes for a process to complete it undecided, or it is t + 1, the last; and a round q before it has enough: at least
+-- q − 1 by q if q is from 2 to t − 1, and at least t by t if q is t. So it is the least of its kind. This is what its definition comes to, of any t
+-- and of any crashes. Assumes nothing.
 use mathlib.Core.Path.{_≡_, _∙_}
 use mathlib.Core.Logic.{inl, inr}
 use Prim.Native.Nat.{ℕ, _+_, _-_, _≤_, _<_}
@@ -14,12 +14,12 @@ use Rattle.run.specs.CrashesSoFar.{fewBy, earlyRound, settlingRound}
 
 module _ (t : ℕ) (crashed : ℕ → ℕ) where
   -- which of the three rounds it is, and why
-  pub data Settling : Type 0 where
+  data Settling : Type 0 where
     is-early : earlyRound t crashed < t → settlingRound t crashed ≡ earlyRound t crashed → Settling
     is-t : t ≤ earlyRound t crashed → crashed t < t → settlingRound t crashed ≡ t → Settling
     is-last : t ≤ earlyRound t crashed → t ≤ crashed t → settlingRound t crashed ≡ t + 1 → Settling
 
-  pub settling : Settling
+  settling : Settling
   unfolding settlingRound
   settling =
       elim (true-or-false (ltb (earlyRound t crashed) t)) [
@@ -54,8 +54,8 @@ module _ (t : ℕ) (crashed : ℕ → ℕ) where
   pub settling-late : t < settlingRound t crashed → t ≤ crashed t
   settling-late l = elim settling [ is-early b e ↦ absurd (omega arith) | is-t _ _ e ↦ absurd (omega arith) | is-last _ many _ ↦ many ]
 
-  -- round r has too few crashes for a process to complete it undecided: r is from 2 to t − 1 with fewer than r − 1 by r, or it is t with fewer than t by t,
-  -- or it is the last
+  -- round r has too few crashes for a process to complete it undecided, since r is from 2 to t − 1 with fewer than r − 1 by r, or it is t with fewer
+  -- than t by t; or it is the last
   pub record TooFew (r : ℕ) : Type 0 where
     pub low : r < t → 2 ≤ r
     pub early : r < t → crashed r < r - 1
@@ -76,7 +76,8 @@ module _ (t : ℕ) (crashed : ℕ → ℕ) where
             let k = at-early l in
             rw e (record { low = λ b. k .0; early = λ b. k .1; at-t = λ b. absurd (omega arith); high = omega arith })
         | is-t past few e ↦ record { low = λ b. absurd (omega arith); early = λ b. absurd (omega arith); at-t = λ b. few; high = omega arith }
-        | is-last past many e ↦ record { low = λ b. absurd (omega arith); early = λ b. absurd (omega arith); at-t = λ b. absurd (omega arith); high = omega arith }
+        | is-last past many e ↦
+            record { low = λ b. absurd (omega arith); early = λ b. absurd (omega arith); at-t = λ b. absurd (omega arith); high = omega arith }
       ]
 
   -- and it is the least round that does

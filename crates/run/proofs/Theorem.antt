@@ -12,7 +12,7 @@ use Rattle.run.specs.Demand.{CompletesUndecided}
 use Rattle.run.specs.Facts.{Conditions, RunPromises}
 use Rattle.run.proofs.Rounds.{completes-if}
 use Rattle.run.proofs.CrashesSoFar.{by-crashes-so-far, by-last-round}
-use Rattle.run.proofs.RoundB.{settles-follows}
+use Rattle.run.proofs.RoundB.{settling-follows, within-b}
 use Rattle.run.proofs.LeftOpen.{no-sooner}
 use Rattle.run.proofs.Demand.{demand-3}
 use Rattle.run.proofs.Reported.{reported}
@@ -37,7 +37,8 @@ accepted-run s limit answers e =
       conditions = conditions s;
       crashes-so-far = by-crashes-so-far s (a .rules);
       last-round = by-last-round s (a .rules);
-      settles = settles-follows s (CompletesUndecided fcwfa s) (by-crashes-so-far s (a .rules)) (by-last-round s (a .rules)) (a .rules .few);
+      settled = settling-follows s (CompletesUndecided fcwfa s) (by-crashes-so-far s (a .rules)) (by-last-round s (a .rules));
+      within-b = within-b s (a .rules .few);
       no-sooner = λ r l. no-sooner s (a .rules) r (omega arith);
       reported = reported s (a .rules);
       none-refused = none-refused s (a .rules) limit (a .n-high);

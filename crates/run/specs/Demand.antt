@@ -28,7 +28,7 @@ module _ (P : Protocol) (s : Schedule) where
     pub completes-it : Completes s r i
     pub undecided : after P s r i .decided ≡ 0
 
--- round B of f crashes of t allowed: "B = f + 2 if f ≤ t − 2 and f + 1 otherwise"; f ≤ t − 2 is asked as f + 2 ≤ t, so that it has no t below 2
+-- round B of f crashes of t allowed: "B = f + 2 if f ≤ t − 2 and f + 1 otherwise". It is asked as f + 2 ≤ t, so that nothing is taken from a t below 2.
 unfoldable pub roundB : ℕ → ℕ → ℕ
 roundB f t = cond (leb (f + 2) t) (f + 2) (f + 1)
 

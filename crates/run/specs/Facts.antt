@@ -1,5 +1,5 @@
 -- What holds of every run besides demand 3: what its definitions come to, process by process, and the facts that the bench and its readers rely
--- on. Proved in proofs/Rounds.antt, Demand.antt, Reported.antt, NoneRefused.antt, OwnAnswers.antt and Silence.antt. Assumes nothing.
+-- on. Proved in proofs/Rounds.antt, Reported.antt, NoneRefused.antt, OwnAnswers.antt, Silence.antt and Theorem.antt. Assumes nothing.
 use Prim.Native.Nat.{ℕ, suc, _+_, _-_, _≤_, _<_}
 use mathlib.Core.Path.{_≡_}
 use mathlib.Core.Logic.{_≢_}
@@ -14,8 +14,8 @@ use Rattle.schedule.specs.Schedule.{Schedule, voteOf, crashOf, reachOf, crashed
 use Rattle.run.specs.Protocol.{Protocol, fcwfa, byCalls}
 use Rattle.run.specs.Run.{stateAt, codeHeard, rowOf, statesAfter, after}
 use Rattle.run.specs.Report.{givenRound, sent, sentAfter, report}
-use Rattle.run.specs.Demand.{Completes, Decides, CompletesUndecided, SomeVotedZero, Demand3}
-use Rattle.run.specs.CrashesSoFar.{settlingOf, CrashesSoFar, LastRound, Settles, LeftOpen}
+use Rattle.run.specs.Demand.{Completes, Decides, CompletesUndecided, roundB, SomeVotedZero, Demand3}
+use Rattle.run.specs.CrashesSoFar.{NobodyUndecided, CrashesSoFar, LastRound, settlingOf, LeftOpen}
 use Rattle.run.specs.Given.{GivenNoneBy, GivenPromises}
 
 module _ (P : Protocol) (s : Schedule) where
@@ -93,8 +93,9 @@ pub record RunPromises (limit : ℕ) (s : Schedule) : Type 0 where
   -- by the crashes so far: what a process that completes round r undecided tells of the crashes, and in which round all have decided for that reason
   pub crashes-so-far : CrashesSoFar s (CompletesUndecided fcwfa s)
   pub last-round : LastRound s (CompletesUndecided fcwfa s)
-  pub settles : Settles s (CompletesUndecided fcwfa s)
-  -- and no round before the settling round is one, by the crash rounds alone
+  pub settled : NobodyUndecided (CompletesUndecided fcwfa s) (settlingOf s)
+  pub within-b : settlingOf s ≤ roundB (report fcwfa s .f) (s .t)
+  -- and no round before the settling round will do, by the crash rounds alone
   pub no-sooner : (r : ℕ) → r < settlingOf s → LeftOpen s r
   pub reported : Reported s
   pub none-refused : NoneRefused fcwfa limit s

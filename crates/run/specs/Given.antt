@@ -1,5 +1,5 @@
--- What is promised of what the bench gives for a schedule, on its counts and its two tables alone: demand 3, the crashes so far, the deciders. Proved in
--- proofs/Given.antt: `given-promises : (s : Schedule) → Rules s → GivenPromises s (report fcwfa s)`. Assumes nothing.
+-- What is promised of what the bench gives for a schedule, on its counts and its two tables alone: demand 3, the crashes so far, the deciders. Proved
+-- in proofs/Given.antt: `given-promises : (s : Schedule) → Rules s → GivenPromises s (report fcwfa s)`. Assumes nothing.
 use Prim.Native.Nat.{ℕ, _≤_, _<_}
 use mathlib.Core.Path.{_≡_}
 use mathlib.Core.Logic.{_⊎_, _≢_}
@@ -8,7 +8,7 @@ use Rattle.schedule.specs.Schedule.{Schedule, voteOf}
 use Rattle.run.specs.Report.{Report, givenRound}
 use Rattle.run.specs.Demand.{Completes, roundB, mostMessages, SomeVotedZero}
 use Rattle.run.specs.Deciders.{Deciders}
-use Rattle.run.specs.CrashesSoFar.{settlingOf, CrashesSoFar, LastRound, Settles}
+use Rattle.run.specs.CrashesSoFar.{NobodyUndecided, CrashesSoFar, LastRound, settlingOf}
 
 module _ (s : Schedule) (given : Report) where
   -- the tables give process i the decision v, in round r, not 0
@@ -54,7 +54,7 @@ module _ (s : Schedule) (given : Report) where
     pub crashes-so-far : CrashesSoFar s GivenNoneBy
     -- every process that completes round t + 1 is given a decision by then, and so is every one that completes the settling round
     pub last-round : LastRound s GivenNoneBy
-    pub settles : Settles s GivenNoneBy
+    pub settled : NobodyUndecided GivenNoneBy (settlingOf s)
     -- so the last round that is given is at most the settling round
     pub last-settled : given .last ≤ settlingOf s
     -- some process is given a decision, and which is the first of these and which round the last

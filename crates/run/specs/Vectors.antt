@@ -1,5 +1,5 @@
--- Values that documents 01 and 02 give, written by hand, and the statement that covers them. Proved in proofs/Vectors.antt: `run-vectors : RunVectors`, by computing
--- what the definitions give.
+-- Values that documents 01 and 02 give, written by hand, and the settling rounds of some crash rounds, worked by hand; and the statement that covers them.
+-- Proved in proofs/Vectors.antt: `run-vectors : RunVectors`, by computing what the definitions give.
 use Prim.Native.Nat.{ℕ}
 use mathlib.Core.Path.{_≡_}
 use mathlib.Core.List.{List, [], _∷_, map}
@@ -42,8 +42,8 @@ pub record RunVectors : Type 0 where
   -- the first r from 2 to t − 1 with fewer than r − 1 crashes by r, else t if there are fewer than t by t, else t + 1: four processes with t = 3, cases A,
   -- D, E, G, H and K
   pub settling-of-4 : map (settlingIn 4 3) (allZero ∷ four 1 0 0 0 ∷ four 1 3 0 2 ∷ four 1 0 0 2 ∷ four 3 0 0 0 ∷ four 1 1 1 0 ∷ []) ≡ 2 ∷ 3 ∷ 4 ∷ 3 ∷ 2 ∷ 4 ∷ []
-  -- seven processes with t = 6: six crashes in round 3, none by 2; one by 2 and 3; three by 2 to 5; one by 2, two by 3, three by 4, four by 5 and by 6; six by
-  -- 6; and five by 6, with one more in round 7
+  -- seven processes with t = 6: six crashes in round 3, none by 2; one by 2 and 3; three by 2 to 5; one by 2, two by 3, three by 4, four by 5 and by 6;
+  -- six by 6; and five by 6, with one more in round 7
   pub settling-of-7 : map (settlingIn 7 6)
       ((3 ∷ 3 ∷ 3 ∷ 3 ∷ 3 ∷ 3 ∷ 0 ∷ []) ∷ (1 ∷ 6 ∷ 6 ∷ 0 ∷ 0 ∷ 0 ∷ 0 ∷ []) ∷ (1 ∷ 1 ∷ 1 ∷ 0 ∷ 0 ∷ 0 ∷ 0 ∷ []) ∷ (2 ∷ 3 ∷ 4 ∷ 5 ∷ 0 ∷ 0 ∷ 0 ∷ [])
       ∷ (1 ∷ 2 ∷ 3 ∷ 4 ∷ 5 ∷ 6 ∷ 0 ∷ []) ∷ (1 ∷ 2 ∷ 3 ∷ 4 ∷ 5 ∷ 7 ∷ 0 ∷ []) ∷ []) ≡ 2 ∷ 3 ∷ 5 ∷ 6 ∷ 7 ∷ 6 ∷ []

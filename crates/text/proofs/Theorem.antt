@@ -13,7 +13,7 @@ use Rattle.run.specs.Protocol.{Protocol}
 use Rattle.run.specs.Report.{Report, report}
 use Rattle.text.specs.Reading.{longest, textAnswer}
 use Rattle.text.specs.Output.{reportText, refusalText, printed, outputOf}
-use Rattle.text.specs.Facts.{SaysTheSame, TextPromises, OutputPromises, PromisesPrinted, AllReadBack}
+use Rattle.text.specs.Facts.{SaysTheSame, TextPromises, OutputPromises, PrintedKeepsPromises, AllReadBack}
 use Rattle.text.proofs.Accepted.{accepted-schedule, line-bound, line-short, prints-promises}
 use Rattle.text.proofs.Inverse.{written}
 use Rattle.text.proofs.ReadBack.{reads-back}
@@ -48,8 +48,8 @@ module _ (P : Protocol) (limit most : ℕ) where
     refusal-says = λ text number k e m j line h. one-refusal number k (lineOf k text) m j line (sym (refusal-printed text number k e) ∙ h);
   }
 
-pub promises-printed : (limit most : ℕ) → PromisesPrinted limit most
-promises-printed limit most = record { printed = λ text s. prints-promises text limit most s }
+pub printed-keeps-promises : (limit most : ℕ) → PrintedKeepsPromises limit most
+printed-keeps-promises limit most = record { printed = λ text s. prints-promises text limit most s }
 
 pub all-read-back : AllReadBack
 all-read-back s e = reads-back largest longest (omega arith) s e (text-short s (question-accepted s largest true e))

@@ -1,7 +1,7 @@
 -- What holds of reading and of what is printed. Proved in proofs/Theorem.antt, and assumes nothing:
 -- `accepted-texts : (limit most : ℕ) → limit ≤ 99 → TextPromises limit most`,
 -- `outputs : (P : Protocol) (limit most : ℕ) → OutputPromises P limit most`,
--- `promises-printed : (limit most : ℕ) → PromisesPrinted limit most`.
+-- `printed-keeps-promises : (limit most : ℕ) → PrintedKeepsPromises limit most`.
 use Prim.Native.Nat.{ℕ, _+_, _≤_, _<_}
 use mathlib.Core.Path.{_≡_}
 use mathlib.Core.List.{List}
@@ -61,7 +61,7 @@ pub record OutputPromises (P : Protocol) (limit most : ℕ) : Type 1 where
       → (m j : ℕ) (line : List ℕ) → outputOf P text limit most ≡ refusalText m j line → (number ≡ m) × (k ≡ j)
 
 -- Under FCWFA: what is promised of what is printed for an accepted text.
-pub record PromisesPrinted (limit most : ℕ) : Type 0 where
+pub record PrintedKeepsPromises (limit most : ℕ) : Type 0 where
   pub printed : (text : List ℕ) (s : Schedule) → textAnswer text limit most ≡ accepted s → PrintsPromises s (outputOf fcwfa text limit most)
 
 -- The text of an accepted schedule of at most 32 processes has at most 2,048 bytes, so it is read back. Proved in proofs/Theorem.antt:
