@@ -49,17 +49,17 @@ module _ (s : Schedule) (ok : Rules s) where
       let b = ap (λ m. m .estimate) (end-is i) in
       record { process = l; round = omega arith; not-none = λ z. omega arith; value = omega arith }
 
-  abbrev pub f : ℕ
+  abbrev f : ℕ
   f = report fcwfa s .f
 
-  abbrev pub B : ℕ
+  abbrev B : ℕ
   B = roundB f (s .t)
 
   nobody-by-b : NobodyUndecided (CompletesUndecided fcwfa s) B
   nobody-by-b = round-b-follows s (CompletesUndecided fcwfa s) (by-crashes-so-far s ok) (by-last-round s ok) (ok .few)
 
   -- so whoever completes round B has decided by then
-  pub by-round-b : (i : ℕ) → Completes s B i → 0 < after fcwfa s B i .decided
+  by-round-b : (i : ℕ) → Completes s B i → 0 < after fcwfa s B i .decided
   by-round-b i c =
       elim (eq-zero-or-pos (after fcwfa s B i .decided)) [
         | inl z ↦ absurd (nobody-by-b i (record { completes-it = c; undecided = z }))

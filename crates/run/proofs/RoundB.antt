@@ -62,7 +62,3 @@ settling-follows s Undecided so-far last = nobody-in s Undecided so-far last (se
 
 pub within-b : WithinB
 within-b s few = let h = settling-least (s .t) (crashedBy s) (roundB (crashCount s) (s .t)) (b-too-few s few) in omega arith
-
--- round B is a round of the run
-pub b-high : (s : Schedule) → crashCount s ≤ s .t → roundB (crashCount s) (s .t) ≤ s .t + 1
-b-high s few = b-too-few s few .high
