@@ -32,15 +32,15 @@ extern "C" {
  * it. It changes with what a program must know to call the library.
  */
 #define FCWFA_VERSION_MAJOR 0
-#define FCWFA_VERSION_MINOR 4
+#define FCWFA_VERSION_MINOR 5
 #define FCWFA_VERSION_PATCH 0
-#define FCWFA_VERSION "0.4.0"
+#define FCWFA_VERSION "0.5.0"
 
 /* The largest number of processes. */
-#define FCWFA_LARGEST_N 32
+#define FCWFA_LARGEST_N 64
 
 /* A set of processes, such as a reach: bit j - 1 stands for process j. */
-typedef uint32_t fcwfa_set;
+typedef uint64_t fcwfa_set;
 
 /* The work is done. */
 #define FCWFA_OK 0

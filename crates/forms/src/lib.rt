@@ -20,7 +20,7 @@ use lines::line_start;
 use sets::Set;
 
 // How many bytes a text may have.
-pub const LONGEST: usize = 2048;
+pub const LONGEST: usize = 8192;
 
 // The sizes n and t of a head whose questions are all answered by yes, or the number of the first question
 // whose answer is no and its line.

@@ -9,7 +9,7 @@ use Rattle.member.specs.declared.Member.{Member}
 abbrev pub opening : ℕ → ℕ → ℕ → ℕ → Member
 opening n t id vote = record { n = n; t = t; id = id; round = 1; estimate = vote; decided = 0 }
 
--- "n from 4 to 32? 1. t from 3 to n − 1? 2.", and the questions after them
+-- "n from 4 to 32? 1. t from 3 to n − 1? 2.", with the limit for 32, and the questions after them
 abbrev pub sizeQuestions : ℕ → ℕ → ℕ → ℕ → ℕ
 sizeQuestions limit n t others =
     ask (within 4 n limit) 1

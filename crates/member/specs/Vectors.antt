@@ -33,10 +33,10 @@ abbrev pub openings : List OpenCall
 openings =
     -- "Opening: round 1, estimate = vote, undecided.", for the smallest and the largest n, t and own number
     opens 4 3 1 1 (state 4 3 1 1 1 0) ∷
-    opens 32 31 32 0 (state 32 31 32 1 0 0) ∷
-    -- "n from 4 to 32? 1": with t = 2 too
+    opens 64 63 64 0 (state 64 63 64 1 0 0) ∷
+    -- "n from 4 to 32? 1", and "n goes to 64": with t = 2 too
     opensNot 3 2 1 1 1 ∷
-    opensNot 33 2 1 1 1 ∷
+    opensNot 65 2 1 1 1 ∷
     -- "t from 3 to n − 1? 2": with own number 0 too
     opensNot 4 2 0 1 2 ∷
     opensNot 4 4 0 1 2 ∷
@@ -69,6 +69,10 @@ sayings =
     -- "0 nothing": "Stopped means: round t + 2, or decided in d with round d + 2."
     speaks (state 4 3 4 4 1 2) 0 ∷
     speaks (state 4 3 4 5 1 4) 0 ∷
+    -- the largest numbers of a state: undecided in the last round of 64, decided in it, and stopped
+    speaks (state 64 63 64 64 1 0) 2 ∷
+    speaks (state 64 63 64 65 1 64) 0 ∷
+    speaks (state 64 63 64 65 0 63) 0 ∷
     -- undecided with a round from 1 to t + 1, so not with 0 or t + 2
     outOfRange (state 4 3 4 0 1 0) ∷
     outOfRange (state 4 3 4 5 1 0) ∷
@@ -81,7 +85,7 @@ sayings =
     outOfRange (state 4 3 4 6 1 4) ∷
     -- n, t, own number and estimate within their limits
     outOfRange (state 3 2 1 1 1 0) ∷
-    outOfRange (state 33 3 4 1 1 0) ∷
+    outOfRange (state 65 3 4 1 1 0) ∷
     outOfRange (state 4 2 4 1 1 0) ∷
     outOfRange (state 4 4 4 1 1 0) ∷
     outOfRange (state 4 3 0 1 1 0) ∷

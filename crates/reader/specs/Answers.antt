@@ -27,7 +27,7 @@ filled read lent = read ++ drop (length read) lent
 
 -- A call with a text and three tables: `limit` is the largest n that is accepted and the tables' size, `most` how many bytes a text may have.
 module _ (limit most : ℕ) (text votes crashes reaches : List ℕ) where
-  -- "Text: three tables of 32? 3, line 0.", and then the questions of the text
+  -- "Text: three tables of 32? 3, line 0.", with the limit for 32, and then the questions of the text
   unfoldable pub readQuestions : Answer (Unit {0}) ℕ
   readQuestions = andNext (onLine 0 (ask (tablesOf limit (length votes) (length crashes) (length reaches)) 3 0)) (textQuestions text limit most)
 

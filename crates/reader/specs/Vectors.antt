@@ -34,26 +34,27 @@ sevens votes crashes reaches = record { votes = replicate votes 7; crashes = rep
 abbrev pub refuses : String → Tables → ℕ → ℕ → ReadCall
 refuses text lent number line = record { text = text; lent = lent; answer = refused number line; after = lent }
 
--- four entries that were read, with 7 after them in a table of 32
+-- four entries that were read, with 7 after them in a table of 64
 abbrev pub readFour : List ℕ → List ℕ
-readFour entries = entries ++ replicate 28 7
+readFour entries = entries ++ replicate 60 7
 
 abbrev pub calls : List ReadCall
 calls =
-    -- "three tables of 32? 3, line 0", before the questions of the text, which is empty
-    refuses "" (sevens 31 32 32) 3 0 ∷
-    refuses "" (sevens 32 33 32) 3 0 ∷
-    refuses "" (sevens 32 32 31) 3 0 ∷
-    refuses "" (sevens 32 32 32) 9 1 ∷
-    -- case D: "fills three lent tables of 32 entries and leaves entries above n unchanged"
+    -- "three tables of 32? 3, line 0", and "the reader's tables have 64 entries", before the questions of the text, which is empty
+    refuses "" (sevens 63 64 64) 3 0 ∷
+    refuses "" (sevens 64 65 64) 3 0 ∷
+    refuses "" (sevens 64 64 63) 3 0 ∷
+    refuses "" (sevens 32 32 32) 3 0 ∷
+    refuses "" (sevens 64 64 64) 9 1 ∷
+    -- case D: "fills three lent tables", now of 64 entries, "and leaves entries above n unchanged"
     record {
       text = "n t\n4 3\nid vote crash reach\n1 1 1 0100\n2 1 0 0000\n3 1 0 0000\n4 1 0 0000\n";
-      lent = sevens 32 32 32;
+      lent = sevens 64 64 64;
       answer = accepted (record { n = 4; t = 3 });
       after = record { votes = readFour allOne; crashes = readFour (four 1 0 0 0); reaches = readFour (four 2 0 0 0) };
     } ∷
     -- four crashes, which are known after the last line only
-    refuses "n t\n4 3\nid vote crash reach\n1 1 1 0000\n2 1 1 0000\n3 1 1 0000\n4 1 1 0000\n" (sevens 32 32 32) 7 7 ∷
+    refuses "n t\n4 3\nid vote crash reach\n1 1 1 0000\n2 1 1 0000\n3 1 1 0000\n4 1 1 0000\n" (sevens 64 64 64) 7 7 ∷
     []
 
 -- what the definitions give for a call

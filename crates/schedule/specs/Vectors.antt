@@ -40,11 +40,12 @@ five = 2 ∷ 2 ∷ 2 ∷ 2 ∷ 2 ∷ []
 
 abbrev pub vectors : List Asked
 vectors =
-    -- "n from 4 to 32? 1": 3 with t = 2 too, 33 with t = 33 too, and both ends pass
+    -- "n from 4 to 32? 1", and "n goes to 64": 3 with t = 2 too, 65 with t = 65 too, and both ends pass, 33 too
     quietCluster 3 2 1 ∷
-    quietCluster 33 33 1 ∷
+    quietCluster 65 65 1 ∷
     quietCluster 4 3 0 ∷
-    quietCluster 32 31 0 ∷
+    quietCluster 33 32 0 ∷
+    quietCluster 64 63 0 ∷
     -- "t from 3 to n − 1? 2": with tables of another length too
     record { schedule = scheduleOf 4 2 three three three; decisions = 3; rounds = 3; number = 2 } ∷
     record { schedule = scheduleOf 4 4 five five five; decisions = 5; rounds = 5; number = 2 } ∷

@@ -11,10 +11,10 @@ ghost use Rattle.sets.specs.Largest.{largest, fitting as Largest·fittin
 ghost use Rattle.sets.specs.Sets.{names, upTo};
 
 // The largest n that is accepted: the bits of a set, and the entries of a table.
-pub const WIDTH: usize = 32;
+pub const WIDTH: usize = 64;
 
 // A set of processes.
-pub type Set = u32;
+pub type Set = u64;
 
 // How many of n processes a set has bits for, and a table entries.
 pub fn fitting(n: usize) -> usize
@@ -67,7 +67,7 @@ pub fn is_up_to(set: Set, n: usize) -> bool
 pub fn ones(set: Set) -> usize
     ensures counted { λ r. ⌜ r ≡ Count·ones set ⌝ }
 {
-    let named = u32::count_ones(set);
+    let named = u64::count_ones(set);
     named as usize
 }
 

@@ -14,9 +14,9 @@ use Rattle.schedule.specs.Schedule.{Schedule, scheduleOf, crashesIn}
 use Rattle.schedule.specs.Questions.{processQuestion}
 use Rattle.text.specs.Forms.{sizesHeading, processesHeading, Sizes, sizesAt, Entry, entryAt}
 
--- "At most 2,048 bytes?"
+-- "a text may have 8,192 bytes"; where document 01 says 2,048, it is this number
 abbrev pub longest : ℕ
-longest = 2048
+longest = 8192
 
 -- whether something was found
 abbrev pub isFound : {A : Type 0} → Found A → Bool
@@ -54,7 +54,7 @@ module _ (text : List ℕ) where
 
   -- The questions in document 01's order, each with its line. `limit` is the largest n that is accepted, `most` how many bytes a text may have.
 
-  -- "At most 2,048 bytes? 8, line 0. Then line by line: of its form? 9; on line 2 then 1, 2": those of lines 1 to 3, and the one before them
+  -- "At most 2,048 bytes? 8, line 0. Then line by line: of its form? 9; on line 2 then 1, 2", with `most` for 2,048: those of lines 1 to 3, and the one before them
   unfoldable pub headQuestions : ℕ → ℕ → Answer (Unit {0}) ℕ
   headQuestions limit most =
       andNext (onLine 0 (ask (leb (length text) most) 8 0))

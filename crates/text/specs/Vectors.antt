@@ -42,10 +42,10 @@ vectors =
     prints "n t" "refused line\n9 1\nn t\n" ∷
     -- line 2 "without a leading zero"; line 3 would get 9
     prints "n t\n04 3\nid\n" "refused line\n9 2\n04 3\n" ∷
-    -- "on line 2 then 1, 2": n = 3 with t = 9, n = 33 of at most 32, and n = 32 with t = 31, where "a missing line is refused with 9 under its line number"
+    -- "on line 2 then 1, 2": n = 3 with t = 9, n = 65 of at most 64, and n = 64 with t = 63, where "a missing line is refused with 9 under its line number"
     prints "n t\n3 9\nid\n" "refused line\n1 2\n3 9\n" ∷
-    prints "n t\n33 32\nid\n" "refused line\n1 2\n33 32\n" ∷
-    prints "n t\n32 31\nid vote crash reach\n" "refused line\n9 4\n\n" ∷
+    prints "n t\n65 64\nid\n" "refused line\n1 2\n65 64\n" ∷
+    prints "n t\n64 63\nid vote crash reach\n" "refused line\n9 4\n\n" ∷
     -- t = 4 and t = 2 at n = 4; line 3 would get 9
     prints "n t\n4 4\nid\n" "refused line\n2 2\n4 4\n" ∷
     prints "n t\n4 2\nid\n" "refused line\n2 2\n4 2\n" ∷
@@ -75,7 +75,7 @@ abbrev pub TextVectors : Type 0
 TextVectors = map (λ v. outputOf fcwfa (quoted (v .text)) largest longest) vectors ≡ map (λ v. quoted (v .output)) vectors
 
 pub record LengthVectors : Type 0 where
-  -- "At most 2,048 bytes? 8, line 0.": any text of 2,049 bytes
-  pub too-long : (text : List ℕ) → length text ≡ 2049 → outputOf fcwfa text largest longest ≡ quoted "refused line\n8 0\n\n"
-  -- any text of 2,048 bytes gets past that question: here to line 1, which is empty
-  pub long : (rest : List ℕ) → length rest ≡ 2047 → outputOf fcwfa (lf ∷ rest) largest longest ≡ quoted "refused line\n9 1\n\n"
+  -- "At most 2,048 bytes? 8, line 0.", and "a text may have 8,192 bytes": any text of 8,193 bytes
+  pub too-long : (text : List ℕ) → length text ≡ 8193 → outputOf fcwfa text largest longest ≡ quoted "refused line\n8 0\n\n"
+  -- any text of 8,192 bytes gets past that question: here to line 1, which is empty
+  pub long : (rest : List ℕ) → length rest ≡ 8191 → outputOf fcwfa (lf ∷ rest) largest longest ≡ quoted "refused line\n9 1\n\n"

@@ -70,10 +70,10 @@ pub use simulator::{simulate, Counts, Report};
 pub use values::{Code, Decided, Decision, Vote};
 
 /// The largest number of processes.
-pub const LARGEST: usize = 32;
+pub const LARGEST: usize = 64;
 
 /// A set of processes, such as a reach; bit j - 1 stands for process j.
-pub type Set = u32;
+pub type Set = u64;
 
 // A set has a bit for each process.
 const _: () = assert!(LARGEST <= Set::BITS as usize);

@@ -1,6 +1,6 @@
 //! The crate as a program uses it.
 use fcwfa::{count_crashes, simulate, Code, Counts, CrashCount, Decided, Decision};
-use fcwfa::{Member, Refusal, Report, Vote, LARGEST};
+use fcwfa::{Member, Refusal, Report, Set, Vote, LARGEST};
 
 /// A decision with its round.
 fn decided(decision: Decision, round: usize) -> Option<Decided> {
@@ -103,7 +103,7 @@ fn a_survivor_is_first_among_equals() {
 #[test]
 fn a_schedule_that_breaks_a_rule_is_refused() {
     let votes = [Vote::Commit; 4];
-    let run = |n, t, crashes: &[u8], reaches: &[u32]| {
+    let run = |n, t, crashes: &[u8], reaches: &[Set]| {
         let report = simulate(n, t, &votes, crashes, reaches);
         report.map(|report| report.counts)
     };

@@ -14,9 +14,6 @@ use Rattle.sets.proofs.is_named.Tie as tie
 returns : tie.Need-returns
 returns c = let a = c .before .args in sym (names-nobody largest (a .set) (a .i) (omega arith) (omega arith))
 
-cast-result : tie.Need-cast-result
-cast-result c = search needs
-
 shr-result : tie.Need-shr-result
 shr-result c = search needs
 
@@ -25,4 +22,4 @@ unfolding names
 returns-2 c = let a = c .before .args in ap (λ (x : ℕ). eqb x 1) (and-mask (a .set / 2 ^ a .i) 1)
 
 pub is-named-spec : {M : Type 1} → statement M
-is-named-spec = tie.close (tie.spec returns cast-result shr-result returns-2)
+is-named-spec = tie.close (tie.spec returns shr-result returns-2)

@@ -10,9 +10,6 @@ use Rattle.sets.proofs.is_up_to.Tie as tie
 returns : tie.Need-returns
 returns c = let a = c .before .args in sym (narrow largest (a .n) (a .set) (search needs) (omega arith))
 
-cast-if2 : tie.Need-cast-if2
-cast-if2 c = search needs
-
 shr-if2 : tie.Need-shr-if2
 shr-if2 c = search needs
 
@@ -23,4 +20,4 @@ returns-3 : tie.Need-returns-3
 returns-3 c = let a = c .before .before .args in sym (below-power (a .set) (a .n) (omega arith))
 
 pub is-up-to-spec : {M : Type 1} → statement M
-is-up-to-spec = tie.close (tie.spec returns cast-if2 shr-if2 returns-2 returns-3)
+is-up-to-spec = tie.close (tie.spec returns shr-if2 returns-2 returns-3)

@@ -45,9 +45,6 @@ sub-digit c = omega (arith, letter-here c)
 cast-reach : tie.Need-cast-reach Inv-loop μ-loop
 cast-reach c = omega (arith, letter-here c)
 
-cast-reach-2 : tie.Need-cast-reach-2 Inv-loop μ-loop
-cast-reach-2 c = omega arith
-
 shl-reach : tie.Need-shl-reach Inv-loop μ-loop
 shl-reach c = omega arith
 
@@ -90,7 +87,6 @@ reach-value-spec =
     byte-at-requires
     sub-digit
     cast-reach
-    cast-reach-2
     shl-reach
     add-reach
     add-j
