@@ -170,7 +170,7 @@ module _ (crashes reaches codes : List ℕ) (r : ℕ) where
   rows-end size {n} {j} same past first h =
       rw (← same) (over-again first (over-so h (λ i b. padded-same n _ _ (λ k a. looked-at j i k (omega arith)))))
 
--- of a crash round and a reach that were read from the tables
-pub entered-at : {n r j code c reach crash named messages : ℕ} {before now : List (List ℕ)} → Entered n r j code c reach before messages now → c ≡ crash → reach ≡ named
-    → Entered n r j code crash named before messages now
-entered-at e same-crash same-reach = rw (← same-crash, ← same-reach) e
+-- of a crash round that was read from the table
+pub entered-at : {n r j code c reach crash messages : ℕ} {before now : List (List ℕ)} → Entered n r j code c reach before messages now → c ≡ crash
+    → Entered n r j code crash reach before messages now
+entered-at e same = rw (← same) e

@@ -8,7 +8,8 @@
 mod rows;
 
 ghost use mathlib.Core.Path.{_≡_};
-ghost use lib.ListN.{getD};
+ghost use Prim.Native.Nat.{_≤_, _<_};
+ghost use lib.ListN.{length, getD};
 ghost use Rattle.sets.specs.Largest.{fitting as Largest·fitting};
 ghost use Rattle.run.specs.Run.{completesRound};
 ghost use Rattle.delivery.specs.Delivery.{Delivers};
@@ -21,7 +22,6 @@ use sets::Set;
 use sets::WIDTH;
 use sets::byte_at;
 use sets::fitting;
-use sets::set_at;
 
 // Whether a process with this crash round completes the round.
 pub fn completes(round: u8, crash: u8) -> bool
@@ -33,26 +33,30 @@ pub fn completes(round: u8, crash: u8) -> bool
 // Stores the rows of the round, of the codes that are said in it, each at the place of its process and with
 // zeros after its codes, and answers the messages of the round. The rows of the grid from place n on stay as
 // they are. A sender that completes the round adds n - 1, a copy for each other process, and one that crashes in
-// it the ones of its reach, each only if it says something.
+// it the ones of its reach, each only if it says something. A grid with fewer rows than processes is left as it
+// is, and 0 is answered.
 pub fn deliver(
     n: usize,
     round: u8,
     codes: &[u8; WIDTH],
     crashes: &[u8],
     reaches: &[Set],
-    grid: &mut [[u8; WIDTH]; WIDTH],
+    grid: &mut [[u8; WIDTH]],
 ) -> usize
-    ensures delivered { λ r. ⌜ Delivers (Largest·fitting n) round (λ j. getD (now (codes .entry)) j 0) (now (crashes .entry)) (now (reaches .entry)) (now (grid .entry)) r (now (grid .exit)) ⌝ }
+    ensures delivered { λ r. ⌜ (Largest·fitting n ≤ length (now (grid .entry)) → Delivers (Largest·fitting n) round (λ j. getD (now (codes .entry)) j 0) (now (crashes .entry)) (now (reaches .entry)) (now (grid .entry)) r (now (grid .exit))) ⌝ }
+    ensures kept { λ r. ⌜ (length (now (grid .entry)) < Largest·fitting n → (r ≡ 0) × (now (grid .exit) ≡ now (grid .entry))) ⌝ }
 {
     let size = fitting(n);
+    if grid.len() < size {
+        return 0;
+    }
     let row = completing_row(size, round, codes, crashes);
-    store_row(size, row, &mut grid[..]);
+    store_row(size, row, grid);
     let mut messages = others(size) * speakers(row);
     let mut j: usize = 0;
     while j < size {
         let crash = byte_at(crashes, j);
-        let reach = set_at(reaches, j);
-        messages += enter_crashing(size, round, j, codes[j], crash, reach, &mut grid[..]);
+        messages += enter_crashing(size, round, j, codes[j], crash, reaches, grid);
         j += 1;
     }
     messages

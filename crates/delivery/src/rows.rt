@@ -20,6 +20,7 @@ use sets::Set;
 use sets::WIDTH;
 use sets::is_named;
 use sets::ones;
+use sets::set_at;
 use sets::zero_bytes;
 
 // What is heard of a code: it, or nothing.
@@ -71,7 +72,7 @@ pub fn completing_row(n: usize, round: u8, codes: &[u8; WIDTH], crashes: &[u8]) 
 
 // Stores the row at each of the first n places.
 pub fn store_row(n: usize, row: [u8; WIDTH], grid: &mut [[u8; WIDTH]])
-    requires size { ⌜ (n ≤ largest) × (length (now grid) ≡ largest) ⌝ }
+    requires size { ⌜ n ≤ length (now grid) ⌝ }
     ensures stored { λ _. ⌜ Overwritten n (λ (_ : ℕ). row) (now (grid .entry)) (now (grid .exit)) ⌝ }
 {
     let mut i: usize = 0;
@@ -103,18 +104,19 @@ pub fn speakers(row: [u8; WIDTH]) -> usize
 }
 
 // Enters a sender that crashes in the round at its place j of the first n rows: its code for the processes
-// that its reach names, and nothing for the others. Answers how many messages it sends so.
+// that its reach names, and nothing for the others. Answers how many messages it sends so. Most senders
+// do not crash in the round: a reach is read only after the tests of the crash round, so theirs are not.
 pub fn enter_crashing(
     n: usize,
     round: u8,
     j: usize,
     code: u8,
     crash: u8,
-    reach: Set,
+    reaches: &[Set],
     grid: &mut [[u8; WIDTH]],
 ) -> usize
-    requires size { ⌜ (n ≤ largest) × (j < largest) × (length (now grid) ≡ largest) ⌝ }
-    ensures entered { λ r. ⌜ Entered n round j code crash reach (now (grid .entry)) r (now (grid .exit)) ⌝ }
+    requires size { ⌜ (j < largest) × (n ≤ length (now grid)) ⌝ }
+    ensures entered { λ r. ⌜ Entered n round j code crash (getD (now (reaches .entry)) j 0) (now (grid .entry)) r (now (grid .exit)) ⌝ }
 {
     if crash == 0 {
         return 0;
@@ -122,6 +124,7 @@ pub fn enter_crashing(
     if crash != round {
         return 0;
     }
+    let reach = set_at(reaches, j);
     let mut i: usize = 0;
     while i < n {
         grid[i][j] = heard_or_nothing(is_named(reach, i), code);

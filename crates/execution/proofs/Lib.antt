@@ -1,4 +1,4 @@
-pub mod Stopped
+pub mod Turns
 pub mod OneRound
 pub mod AllRounds
 pub mod Whole

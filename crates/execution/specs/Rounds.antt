@@ -5,18 +5,12 @@ use lib.ListN.{getD, take, replicate}
 use Rattle.laws.specs.Filled.{Overwritten}
 use Rattle.sets.specs.Largest.{largest}
 use Rattle.member.specs.declared.Member.{Member}
-use Rattle.schedule.specs.Schedule.{Schedule, scheduleOf}
 use Rattle.run.specs.Protocol.{Protocol, nobody}
-use Rattle.run.specs.Run.{stateAt, codeSaid, stateAfter, nextState}
-use Rattle.delivery.specs.Delivery.{Delivers}
+use Rattle.run.specs.Run.{stateAt, stateAfter}
 
 -- an array in which no member stands
 abbrev pub noMembers : List Member
 noMembers = replicate largest nobody
-
--- a schedule with these crashes: a round depends neither on t nor on the votes
-abbrev pub crashSchedule : ℕ → List ℕ → List ℕ → Schedule
-crashSchedule n crashes reaches = scheduleOf n 0 [] crashes reaches
 
 -- Of any protocol, a cluster of n processes.
 module _ (P : Protocol) (n : ℕ) where
@@ -28,9 +22,3 @@ module _ (P : Protocol) (n : ℕ) where
   abbrev pub HearsRows : ℕ → List Member → List ℕ → List (List ℕ) → List Member → Type 0
   HearsRows round members crashes grid next =
       Overwritten n (λ i. stateAfter P round (getD crashes i 0) (stateAt members i) (take n (getD grid i []))) members next
-
-  -- A round of the codes that the members say: the states after it, and what is delivered in it, the rows in the grid and the messages.
-  pub record PlaysRound (round : ℕ) (members : List Member) (crashes reaches : List ℕ) (grid : List (List ℕ)) (next : List Member) (messages : ℕ) (gridNow : List (List ℕ))
-      : Type 0 where
-    pub states : Overwritten n (nextState P (crashSchedule n crashes reaches) round members) members next
-    pub sent : Delivers n round (codeSaid P members) crashes reaches grid messages gridNow

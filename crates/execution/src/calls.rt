@@ -1,13 +1,21 @@
-// One member's calls: the public `open` and `say` of the crate `member` and `hear` of the crate `hearing`,
-// the code that a machine of the cluster runs, with what stands for a refused answer. Nothing else in this
-// crate knows the protocol.
+// One member's calls: the public `open` of the crate `member` and `hear` of the crate `hearing`, the code that
+// a machine of the cluster runs, with what stands for a refused answer. Nothing else in this crate knows the
+// protocol.
+ghost use mathlib.Core.Bool.{true};
 ghost use mathlib.Core.Path.{_≡_};
+ghost use Rattle.sets.specs.Largest.{largest};
+ghost use Rattle.member.specs.State.{inRange};
 ghost use Rattle.run.specs.Protocol.{nobody};
 ghost use Rattle.execution.specs.Calls.{calls};
 use member::Heard;
 use member::Member;
 use member::Opened;
-use member::Said;
+
+// A member between two rounds: its state, and the code that it says in the round to come.
+pub struct Turn {
+    pub state: Member,
+    pub code: u8,
+}
 
 // What stands at the places that hold no member.
 pub fn no_member() -> Member
@@ -23,17 +31,6 @@ pub fn no_member() -> Member
     }
 }
 
-// A member opened with its number and vote, nobody where that is refused.
-pub fn opened(n: usize, t: usize, id: usize, vote: u8) -> Member
-    ensures opened { λ r. ⌜ r ≡ calls .opening n t id vote ⌝ }
-{
-    let answer = member::open(n, t, id, vote);
-    match answer {
-        Opened::Started(m) => m,
-        Opened::Refused(_) => no_member(),
-    }
-}
-
 // Whether a member has stopped.
 pub fn is_stopped(m: Member) -> bool
     ensures tested { λ r. ⌜ r ≡ calls .stopped m ⌝ }
@@ -41,28 +38,45 @@ pub fn is_stopped(m: Member) -> bool
     member::is_stopped(m)
 }
 
-// The code that a member says, nothing where that is refused. A stopped member says nothing, in range or
-// not, so it need not be asked.
-pub fn said(m: Member) -> u8
-    ensures said { λ r. ⌜ r ≡ calls .says m ⌝ }
+// A member that an accepted call left. It is in range, so that its saying is not refused and need not be asked.
+fn in_turn(m: Member) -> Turn
+    requires in_range { ⌜ inRange largest m ≡ true ⌝ }
+    ensures state { λ r. ⌜ r .state ≡ m ⌝ }
+    ensures said { λ r. ⌜ r .code ≡ calls .says m ⌝ }
 {
-    if is_stopped(m) {
-        return 0;
-    }
-    let answer = member::say(m);
-    match answer {
-        Said::Code(code) => code,
-        Said::Refused(_) => 0,
+    Turn {
+        state: m,
+        code: member::code(m) as u8,
     }
 }
 
-// The state of a member after a row that it hears, the same state where that is refused.
-pub fn heard(m: Member, row: &[u8]) -> Member
-    ensures heard { λ r. ⌜ r ≡ calls .hears m (now (row .entry)) ⌝ }
+// A member opened with its number and vote; nobody, who says nothing, where that is refused.
+pub fn opened(n: usize, t: usize, id: usize, vote: u8) -> Turn
+    ensures state { λ r. ⌜ r .state ≡ calls .opening n t id vote ⌝ }
+    ensures said { λ r. ⌜ r .code ≡ calls .says (r .state) ⌝ }
+{
+    let answer = member::open(n, t, id, vote);
+    match answer {
+        Opened::Started(m) => in_turn(m),
+        Opened::Refused(_) => Turn {
+            state: no_member(),
+            code: 0,
+        },
+    }
+}
+
+// A member that says this code, after a row that it hears; and the same one where that is refused.
+pub fn heard(m: Member, code: u8, row: &[u8]) -> Turn
+    requires said_before { ⌜ code ≡ calls .says m ⌝ }
+    ensures state { λ r. ⌜ r .state ≡ calls .hears m (now (row .entry)) ⌝ }
+    ensures said { λ r. ⌜ r .code ≡ calls .says (r .state) ⌝ }
 {
     let answer = hearing::hear(m, row);
     match answer {
-        Heard::Moved(next) => next,
-        Heard::Refused(_, _) => m,
+        Heard::Moved(next) => in_turn(next),
+        Heard::Refused(_, _) => Turn {
+            state: m,
+            code: code,
+        },
     }
 }

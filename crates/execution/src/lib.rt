@@ -1,18 +1,12 @@
 // The run of a schedule by its members' own calls (document 01, "Who hears whom").
 //
-// The members stand side by side in an array. `open_all` opens them, `codes_said` is what they say,
-// `hear_rows` has each hear its row, and `play_round` is one round of all of them. `play_rounds` asks
-// questions 1 to 7 and plays rounds from the opening on. Each takes anything, and none has a `requires`. That
-// no call of a member is refused in the run of an accepted schedule is proved.
+// The members stand side by side in an array (round.rt), and play.rt plays their rounds. `play_rounds` asks
+// questions 1 to 7 and plays rounds from the opening on. It takes anything, and has no `requires`. That no call
+// of a member is refused in the run of an accepted schedule is proved.
 mod calls;
 mod play;
 mod round;
 
-pub use round::Played;
-pub use round::codes_said;
-pub use round::hear_rows;
-pub use round::open_all;
-pub use round::play_round;
 ghost use mathlib.Core.Path.{_≡_};
 ghost use Prim.Native.Nat.{_+_, min};
 ghost use Rattle.sets.specs.Largest.{largest};

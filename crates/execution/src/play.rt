@@ -2,13 +2,13 @@
 ghost use mathlib.Core.Bool.{true};
 ghost use mathlib.Core.Path.{_≡_};
 ghost use Prim.Native.Nat.{_+_, _≤_};
+ghost use lib.ListN.{length};
 ghost use Rattle.sets.specs.Largest.{largest};
 ghost use Rattle.schedule.specs.Schedule.{scheduleOf};
 ghost use Rattle.schedule.specs.Questions.{question};
 ghost use Rattle.run.specs.Protocol.{fcwfa};
 ghost use Rattle.execution.specs.Ran.{Plays};
 use crate::round::Played;
-use crate::round::codes_said;
 use crate::round::hear_rows;
 use crate::round::open_all;
 use delivery::deliver;
@@ -16,15 +16,62 @@ use sets::Set;
 use sets::WIDTH;
 use sets::zero_bytes;
 
+// The rows of the smaller grid.
+const FEW: usize = 16;
+
 // The grid of a run's rounds before its first.
-fn empty_grid() -> [[u8; WIDTH]; WIDTH] {
+fn all_rows() -> [[u8; WIDTH]; WIDTH] {
     let row = zero_bytes();
     [row; WIDTH]
 }
 
+// The same with fewer rows.
+fn few_rows() -> [[u8; WIDTH]; FEW] {
+    let row = zero_bytes();
+    [row; FEW]
+}
+
 // Rounds 1 to `last`, up to the first in which nothing is sent: after it nothing happens any more. A sender that
 // completes a round and says something adds n - 1 to it, at least 3 in an accepted schedule; so in such a round all
-// that complete it have stopped.
+// that complete it have stopped. The grid, with a row for each process, is lent: it is formed once for a run.
+fn play_on(
+    n: usize,
+    t: usize,
+    votes: &[u8],
+    crashes: &[u8],
+    reaches: &[Set],
+    last: usize,
+    grid: &mut [[u8; WIDTH]],
+) -> Played
+    requires accepted { ⌜ question (scheduleOf n t (now votes) (now crashes) (now reaches)) largest true ≡ 0 ⌝ }
+    requires rounds { ⌜ last ≤ t + 1 ⌝ }
+    requires size { ⌜ n ≤ length (now grid) ⌝ }
+    ensures played { λ r. ⌜ Plays fcwfa (scheduleOf n t (now (votes .entry)) (now (crashes .entry)) (now (reaches .entry))) last (r .members) (r .messages) ⌝ }
+{
+    let mut codes = zero_bytes();
+    let mut members = open_all(n, t, votes, &mut codes[..]);
+    let mut messages: usize = 0;
+    let mut round: u8 = 0;
+    while (round as usize) < last {
+        let sent = deliver(n, round + 1, &codes, crashes, reaches, &mut grid[..]);
+        if sent == 0 {
+            return Played {
+                members: members,
+                messages: messages,
+            };
+        }
+        let next = hear_rows(n, round + 1, members, crashes, &grid[..], &mut codes[..]);
+        members = next;
+        messages += sent;
+        round += 1;
+    }
+    Played {
+        members: members,
+        messages: messages,
+    }
+}
+
+// Rounds 1 to `last`. To form the grid is a good part of a small cluster's run, so that one has fewer rows.
 pub fn play(
     n: usize,
     t: usize,
@@ -37,26 +84,10 @@ pub fn play(
     requires rounds { ⌜ last ≤ t + 1 ⌝ }
     ensures played { λ r. ⌜ Plays fcwfa (scheduleOf n t (now (votes .entry)) (now (crashes .entry)) (now (reaches .entry))) last (r .members) (r .messages) ⌝ }
 {
-    let mut members = open_all(n, t, votes);
-    let mut grid = empty_grid();
-    let mut messages: usize = 0;
-    let mut round: u8 = 0;
-    while (round as usize) < last {
-        let codes = codes_said(n, members);
-        let sent = deliver(n, round + 1, &codes, crashes, reaches, &mut grid);
-        if sent == 0 {
-            return Played {
-                members: members,
-                messages: messages,
-            };
-        }
-        let next = hear_rows(n, round + 1, members, crashes, &grid);
-        members = next;
-        messages += sent;
-        round += 1;
+    if n <= FEW {
+        let mut grid = few_rows();
+        return play_on(n, t, votes, crashes, reaches, last, &mut grid[..]);
     }
-    Played {
-        members: members,
-        messages: messages,
-    }
+    let mut grid = all_rows();
+    play_on(n, t, votes, crashes, reaches, last, &mut grid[..])
 }

@@ -1,25 +1,24 @@
-// One round of all members, which stand side by side in an array, and their opening. Each function takes
-// anything: a cluster of more processes than a set has bits for is cut there (`fitting`), a table reads as 0
-// past its end, and a refused call of a member keeps its state.
+// All members, which stand side by side in an array, and the codes that they say in the round to come: their
+// opening, and what a round makes of them. A cluster of more processes than a set has bits for is cut there
+// (`fitting`), a table reads as 0 past its end, and a refused call of a member keeps its state.
 ghost use mathlib.Core.Path.{_≡_};
+ghost use Prim.Native.Nat.{ℕ, _≤_, _<_};
+ghost use lib.ListN.{length, getD};
+ghost use Rattle.laws.specs.Filled.{Overwritten};
 ghost use Rattle.sets.specs.Largest.{fitting as Largest·fitting};
-ghost use Rattle.sets.specs.Tables.{padded};
 ghost use Rattle.run.specs.Run.{codeSaid, stateAfter};
 ghost use Rattle.execution.specs.Calls.{calls};
-ghost use Rattle.execution.specs.Rounds.{noMembers, Opens, HearsRows, PlaysRound};
+ghost use Rattle.execution.specs.Rounds.{noMembers, Opens, HearsRows};
+use crate::calls::Turn;
 use crate::calls::heard;
 use crate::calls::is_stopped;
 use crate::calls::no_member;
 use crate::calls::opened;
-use crate::calls::said;
 use delivery::completes;
-use delivery::deliver;
 use member::Member;
-use sets::Set;
 use sets::WIDTH;
 use sets::byte_at;
 use sets::fitting;
-use sets::zero_bytes;
 
 pub fn no_members() -> [Member; WIDTH]
     ensures none { λ r. ⌜ r ≡ noMembers ⌝ }
@@ -28,58 +27,61 @@ pub fn no_members() -> [Member; WIDTH]
     [m; WIDTH]
 }
 
-// The members of all processes, opened, and nobody at the places after them.
-pub fn open_all(n: usize, t: usize, votes: &[u8]) -> [Member; WIDTH]
+// The members of all processes, opened, and nobody at the places after them. `codes` gets what they say.
+pub fn open_all(n: usize, t: usize, votes: &[u8], codes: &mut [u8]) -> [Member; WIDTH]
+    requires room { ⌜ Largest·fitting n ≤ length (now codes) ⌝ }
     ensures opened { λ r. ⌜ Opens calls (Largest·fitting n) t (now (votes .entry)) r ⌝ }
+    ensures said { λ r. ⌜ Overwritten (Largest·fitting n) (codeSaid calls r) (now (codes .entry)) (now (codes .exit)) ⌝ }
 {
     let size = fitting(n);
     let mut members = no_members();
     let mut i: usize = 0;
     while i < size {
-        let m = opened(size, t, i + 1, byte_at(votes, i));
-        members[i] = m;
+        let turn = opened(size, t, i + 1, byte_at(votes, i));
+        let state = turn.state;
+        members[i] = state;
+        codes[i] = turn.code;
         i += 1;
     }
     members
 }
 
-// The codes that the members say.
-pub fn codes_said(n: usize, members: [Member; WIDTH]) -> [u8; WIDTH]
-    ensures said { λ r. ⌜ r ≡ padded (Largest·fitting n) (codeSaid calls members) ⌝ }
-{
-    let size = fitting(n);
-    let mut codes = zero_bytes();
-    let mut i: usize = 0;
-    while i < size {
-        let m = members[i];
-        codes[i] = said(m);
-        i += 1;
-    }
-    codes
-}
-
-// The state of a member after the round: it hears its row if it completes the round and is not stopped.
-fn next_state(round: u8, crash: u8, m: Member, row: &[u8]) -> Member
-    ensures next { λ r. ⌜ r ≡ stateAfter calls round crash m (now (row .entry)) ⌝ }
+// A member that says this code, after the round: it hears its row if it completes the round and is not stopped.
+fn next_turn(round: u8, crash: u8, m: Member, code: u8, row: &[u8]) -> Turn
+    requires said_before { ⌜ code ≡ calls .says m ⌝ }
+    ensures state { λ r. ⌜ r .state ≡ stateAfter calls round crash m (now (row .entry)) ⌝ }
+    ensures said { λ r. ⌜ r .code ≡ calls .says (r .state) ⌝ }
 {
     if !completes(round, crash) {
-        return m;
+        return Turn {
+            state: m,
+            code: code,
+        };
     }
     if is_stopped(m) {
-        return m;
+        return Turn {
+            state: m,
+            code: code,
+        };
     }
-    heard(m, row)
+    heard(m, code, row)
 }
 
-// The states after a round whose rows are the first n codes of the rows of the grid.
+// The states after a round whose rows are the first n codes of the rows of the grid. `codes` has what the
+// members say in it, and gets what they say in the next: so no member is asked what it says but where a row
+// has changed it.
 pub fn hear_rows(
     n: usize,
     round: u8,
     members: [Member; WIDTH],
     crashes: &[u8],
-    grid: &[[u8; WIDTH]; WIDTH],
+    grid: &[[u8; WIDTH]],
+    codes: &mut [u8],
 ) -> [Member; WIDTH]
+    requires room { ⌜ (Largest·fitting n ≤ length (now grid)) × (Largest·fitting n ≤ length (now codes)) ⌝ }
+    requires said_before { ⌜ ((i : ℕ) → i < Largest·fitting n → getD (now codes) i 0 ≡ codeSaid calls members i) ⌝ }
     ensures heard { λ r. ⌜ HearsRows calls (Largest·fitting n) round members (now (crashes .entry)) (now (grid .entry)) r ⌝ }
+    ensures said { λ r. ⌜ Overwritten (Largest·fitting n) (codeSaid calls r) (now (codes .entry)) (now (codes .exit)) ⌝ }
 {
     let size = fitting(n);
     let mut next = members;
@@ -87,35 +89,17 @@ pub fn hear_rows(
     while i < size {
         let m = next[i];
         let row = &grid[i][..];
-        let state = next_state(round, byte_at(crashes, i), m, &row[..size]);
+        let turn = next_turn(round, byte_at(crashes, i), m, codes[i], &row[..size]);
+        let state = turn.state;
         next[i] = state;
+        codes[i] = turn.code;
         i += 1;
     }
     next
 }
 
-// The states after a round, or after some rounds, and the messages sent in them.
+// The states after some rounds, and the messages sent in them.
 pub struct Played {
     pub members: [Member; WIDTH],
     pub messages: usize,
-}
-
-// One round of all members. The grid gets the rows of the round; it is lent, so that a run forms it once.
-pub fn play_round(
-    n: usize,
-    round: u8,
-    members: [Member; WIDTH],
-    crashes: &[u8],
-    reaches: &[Set],
-    grid: &mut [[u8; WIDTH]; WIDTH],
-) -> Played
-    ensures played { λ r. ⌜ PlaysRound calls (Largest·fitting n) round members (now (crashes .entry)) (now (reaches .entry)) (now (grid .entry)) (r .members) (r .messages) (now (grid .exit)) ⌝ }
-{
-    let codes = codes_said(n, members);
-    let messages = deliver(n, round, &codes, crashes, reaches, grid);
-    let next = hear_rows(n, round, members, crashes, grid);
-    Played {
-        members: next,
-        messages: messages,
-    }
 }

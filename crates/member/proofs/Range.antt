@@ -12,7 +12,8 @@ use Rattle.laws.proofs.Test.{true-or-false, and-left, and-right, or-false, with
 use Rattle.laws.proofs.Answer.{passed}
 use Rattle.member.specs.declared.Member.{Member}
 use Rattle.member.specs.Opening.{openQuestion}
-use Rattle.member.specs.State.{inLimits, placed, inRange, stopped}
+use Rattle.member.specs.State.{undecided, inLimits, placed, inRange, stopped}
+use Rattle.member.specs.Saying.{says}
 
 -- n, t, own number and estimate (or vote) are within their limits.
 pub record Limits (limit n t id value : ℕ) : Type 0 where
@@ -122,6 +123,16 @@ module _ (limit : ℕ) (m : Member) where
   pub ranged-in-range : Ranged limit m → inRange limit m ≡ true
   unfolding inRange inLimits
   ranged-in-range r = rw (limits-open limit (m .n) (m .t) (m .id) (m .estimate) (r .bounds), place-placed m (r .place))
+
+  -- what it says is one of the codes
+  pub code-low : inRange limit m ≡ true → says m ≤ 4
+  unfolding says
+  code-low e =
+      let value = in-range-ranged e .bounds .value-high in
+      elim (true-or-false (stopped m)) [
+        | inl a ↦ rw a (omega arith)
+        | inr a ↦ rw a (elim (true-or-false (undecided m)) [ inl b ↦ rw b (omega arith) | inr b ↦ rw b (omega arith) ])
+      ]
 
 -- the last test of a member that is not in round t + 2
 pub stopped-last : (m : Member) → (m .round ≡ m .t + 2 → ⊥) → (m .decided ≡ 0 → ⊥) → eqb (m .round) (m .decided + 2) ≡ stopped m

@@ -11,6 +11,7 @@ mod limits;
 mod state;
 
 pub use limits::size_question;
+pub use state::code;
 pub use state::is_stopped;
 ghost use mathlib.Core.Path.{_≡_};
 ghost use Rattle.sets.specs.Largest.{largest};
@@ -89,5 +90,5 @@ pub fn say(m: Member) -> Said
     if !state::is_in_range(m) {
         return Said::Refused(11);
     }
-    Said::Code(state::code(m))
+    Said::Code(state::code(m) as u8)
 }

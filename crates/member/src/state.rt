@@ -1,6 +1,5 @@
 // What a state says: whether it is in range, whether it has stopped, and the code that it sends.
 ghost use mathlib.Core.Path.{_≡_};
-ghost use mathlib.Core.Bool.{true};
 ghost use Rattle.sets.specs.Largest.{largest};
 ghost use Rattle.member.specs.State.{inLimits, placed, inRange, stopped};
 ghost use Rattle.member.specs.Saying.{says};
@@ -55,16 +54,17 @@ pub fn is_stopped(m: Member) -> bool
     round == decided + 2
 }
 
-// The code that a member in range says.
-pub fn code(m: Member) -> u8
-    requires in_range { ⌜ inRange largest m ≡ true ⌝ }
+// The code that a state says, in range or not: out of range it need not fit a byte, for there the estimate
+// is any byte.
+pub fn code(m: Member) -> usize
     ensures said { λ r. ⌜ r ≡ says m ⌝ }
 {
+    let estimate = m.estimate as usize;
     if is_stopped(m) {
         return 0;
     }
     if m.decided == 0 {
-        return 1 + m.estimate;
+        return 1 + estimate;
     }
-    3 + m.estimate
+    3 + estimate
 }

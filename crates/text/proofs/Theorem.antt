@@ -52,4 +52,7 @@ pub printed-keeps-promises : (limit most : ℕ) → PrintedKeepsPromises limit m
 printed-keeps-promises limit most = record { printed = λ text s. prints-promises text limit most s }
 
 pub all-read-back : AllReadBack
-all-read-back s e = reads-back largest longest (omega arith) s e (text-short s (question-accepted s largest true e))
+all-read-back = record {
+  short = λ s e. text-short s (question-accepted s largest true e);
+  read-back = λ s e. let short = text-short s (question-accepted s largest true e) in reads-back largest longest (omega arith) s e (omega arith);
+}

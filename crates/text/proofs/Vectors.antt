@@ -1,9 +1,12 @@
--- The texts of specs/Vectors.antt: what the definitions print for them is computed, for all at once. Assumes nothing.
-use mathlib.Core.Path.{refl}
+-- The texts of specs/Vectors.antt: what the definitions print for them is computed, for all at once, and so is the length of the longest text.
+-- Assumes nothing.
+use mathlib.Core.Path.{_≡_, refl}
+use mathlib.Core.Bool.{true}
 use lib.Count.{ones, onesIn}
+use lib.ListN.{length}
 use Rattle.laws.specs.Test.{within}
 use Rattle.laws.specs.Below.{sum, count, tabulate, fold}
-use Rattle.laws.specs.Answer.{ask, answer, andNext, nextEach}
+use Rattle.laws.specs.Answer.{ask, andThen, askEach, answer, andNext, nextEach}
 use Rattle.lines.specs.Lines.{lineLength, afterLine, afterLines, lineOf}
 use Rattle.fields.specs.Found.{thenRead}
 use Rattle.fields.specs.Decimal.{isDigit, decimalIn, decimal, field}
@@ -11,24 +14,35 @@ use Rattle.fields.specs.Fields.{startsWith, hasByte, ended, numberField, digitF
 use Rattle.member.specs.State.{stopped}
 use Rattle.member.specs.Saying.{says}
 use Rattle.member.specs.Hearing.{codes, told, zerosOnly, quiet, enough, ruleMet, firstEstimate, lowered, toldValue, byRule, becomes}
+use Rattle.sets.specs.Largest.{largest}
 use Rattle.sets.specs.Sets.{names}
 use Rattle.schedule.specs.Schedule.{crashesIn}
-use Rattle.schedule.specs.Questions.{reachRight, entryQuestion}
+use Rattle.schedule.specs.Questions.{reachRight, entryQuestion, tablesOf, question}
 use Rattle.run.specs.Run.{completesRound, isHeard, delivered, codeHeard, rowOf, stateAfter, nextState, played, opened, statesAfter, final}
 use Rattle.run.specs.Report.{sentBy, messages, decisionOf, ahead, before, firstWith, firstOf, lastOf}
 use Rattle.text.specs.Forms.{sizesAt, entryAt}
-use Rattle.text.specs.Written.{eachLine}
+use Rattle.text.specs.Written.{eachLine, sizesLine, lettersOf, processLine, textOf}
 use Rattle.text.specs.Reading.{onLine, scheduleIn, entryQuestions, headQuestions, tailQuestions, restQuestions, textQuestions, textAnswer}
 use Rattle.text.specs.Output.{decisionLetter, countsLine, decisionLine, decisionLines, reportText, refusalText, outputOf}
-use Rattle.text.specs.Vectors.{TextVectors, LengthVectors}
+use Rattle.text.specs.Vectors.{TextVectors, longestSchedule, LengthVectors}
 
 pub text-vectors : TextVectors
 unfolding ones onesIn within sum count tabulate fold ask answer andNext nextEach lineLength afterLine afterLines lineOf thenRead isDigit decimalIn decimal startsWith hasByte ended numberField digitField reachField stopped says codes told zerosOnly quiet enough ruleMet firstEstimate lowered toldValue byRule becomes names crashesIn reachRight entryQuestion completesRound isHeard delivered codeHeard rowOf stateAfter nextState played opened statesAfter final sentBy messages decisionOf ahead before firstWith firstOf lastOf sizesAt entryAt field eachLine onLine scheduleIn entryQuestions headQuestions tailQuestions restQuestions textQuestions textAnswer decisionLetter countsLine decisionLine decisionLines reportText refusalText outputOf
 text-vectors = refl
+
+longest-accepted : question longestSchedule largest true ≡ 0
+unfolding within sum count fold ask andThen askEach names crashesIn reachRight entryQuestion tablesOf question
+longest-accepted = refl
+
+longest-text : length (textOf longestSchedule) ≡ 4692
+unfolding tabulate fold decimalIn decimal field names eachLine sizesLine lettersOf processLine textOf
+longest-text = refl
 
 pub length-vectors : LengthVectors
 unfolding ask answer andNext lineLength afterLines lineOf decimalIn decimal startsWith field onLine headQuestions textQuestions textAnswer refusalText outputOf
 length-vectors = record {
   too-long = λ text e. rw e;
   long = λ rest e. rw e;
+  longest-accepted = longest-accepted;
+  longest-text = longest-text;
 }

@@ -64,7 +64,8 @@ pub record OutputPromises (P : Protocol) (limit most : ℕ) : Type 1 where
 pub record PrintedKeepsPromises (limit most : ℕ) : Type 0 where
   pub printed : (text : List ℕ) (s : Schedule) → textAnswer text limit most ≡ accepted s → PrintsPromises s (outputOf fcwfa text limit most)
 
--- The text of an accepted schedule of at most 32 processes has at most 2,048 bytes, so it is read back. Proved in proofs/Theorem.antt:
+-- The text of an accepted schedule has at most 4,692 bytes, so that it is never too long, and it is read back. Proved in proofs/Theorem.antt:
 -- `all-read-back : AllReadBack`.
-abbrev pub AllReadBack : Type 0
-AllReadBack = (s : Schedule) → question s largest true ≡ 0 → textAnswer (textOf s) largest longest ≡ accepted s
+pub record AllReadBack : Type 0 where
+  pub short : (s : Schedule) → question s largest true ≡ 0 → length (textOf s) ≤ 4692
+  pub read-back : (s : Schedule) → question s largest true ≡ 0 → textAnswer (textOf s) largest longest ≡ accepted s

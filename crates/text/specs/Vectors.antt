@@ -1,14 +1,18 @@
--- Texts with their whole output under FCWFA, written from documents 01 and 02 by hand, and the statements that cover them. Proved in proofs/Vectors.antt:
--- `text-vectors : TextVectors` and `length-vectors : LengthVectors`, each by computing what the definitions give.
+-- Texts with their whole output under FCWFA, written from documents 01 and 02 by hand, a schedule with the longest text, and the statements that
+-- cover them. Proved in proofs/Vectors.antt, each by computing what the definitions give: `text-vectors : TextVectors`, `length-vectors : LengthVectors`.
 use Prim.Native.Nat.{ℕ}
 use Prim.Native.String.{String}
 use mathlib.Core.Path.{_≡_}
-use mathlib.Core.List.{List, [], _∷_, map}
-use lib.ListN.{length}
+use mathlib.Core.List.{List, [], _∷_, _++_, map}
+use mathlib.Core.Bool.{true}
+use lib.ListN.{length, replicate}
 use Rattle.laws.specs.Quoted.{quoted}
 use Rattle.lines.specs.Lines.{lf}
 use Rattle.sets.specs.Largest.{largest}
+use Rattle.schedule.specs.Schedule.{Schedule, scheduleOf}
+use Rattle.schedule.specs.Questions.{question}
 use Rattle.run.specs.Protocol.{fcwfa}
+use Rattle.text.specs.Written.{textOf}
 use Rattle.text.specs.Reading.{longest}
 use Rattle.text.specs.Output.{outputOf}
 
@@ -74,8 +78,15 @@ vectors =
 abbrev pub TextVectors : Type 0
 TextVectors = map (λ v. outputOf fcwfa (quoted (v .text)) largest longest) vectors ≡ map (λ v. quoted (v .output)) vectors
 
+-- A schedule with the longest text: 64 processes, of which all but the last crash, in round t + 1 = 64.
+abbrev pub longestSchedule : Schedule
+longestSchedule = scheduleOf 64 63 (replicate 64 1) (replicate 63 64 ++ (0 ∷ [])) (replicate 64 0)
+
 pub record LengthVectors : Type 0 where
   -- "At most 2,048 bytes? 8, line 0.", and "a text may have 8,192 bytes": any text of 8,193 bytes
   pub too-long : (text : List ℕ) → length text ≡ 8193 → outputOf fcwfa text largest longest ≡ quoted "refused line\n8 0\n\n"
   -- any text of 8,192 bytes gets past that question: here to line 1, which is empty
   pub long : (rest : List ℕ) → length rest ≡ 8191 → outputOf fcwfa (lf ∷ rest) largest longest ≡ quoted "refused line\n9 1\n\n"
+  -- the bound of `AllReadBack` (specs/Facts.antt) is met: a schedule is accepted whose text has 4,692 bytes
+  pub longest-accepted : question longestSchedule largest true ≡ 0
+  pub longest-text : length (textOf longestSchedule) ≡ 4692

@@ -7,6 +7,7 @@ use mathlib.Core.Logic.{_≢_, inl, inr, ⊎-elim}
 use mathlib.Core.Path.{_≡_, refl, _∙_, ap, ap₂}
 use native.Mathlib.Omega.{arith}
 use borrow.Author.Needs.{needs}
+use lib.Count.{ones}
 use lib.ListN.{getD, set}
 use Rattle.laws.specs.Filled.{Overwritten}
 use Rattle.laws.proofs.Overwritten.{over-start, over-more, over-past, over-long, over-all}
@@ -17,21 +18,25 @@ use Rattle.delivery.proofs.rows.enter_crashing.Statement.{statement}
 use Rattle.delivery.proofs.rows.enter_crashing.Tie as tie
 
 abbrev Inv-loop : tie.InvT-loop
-Inv-loop n round j code crash reach grid₀ i₀ grid i = (i ≤ n) × Overwritten i (λ (k : ℕ). set (getD grid₀ k []) j (cond (names reach k) code nothing)) grid₀ grid
+Inv-loop n round j code crash reaches grid₀ reach i₀ grid i =
+    (i ≤ n) × Overwritten i (λ (k : ℕ). set (getD grid₀ k []) j (cond (names (getD reaches j 0) k) code nothing)) grid₀ grid
 
 abbrev μ-loop : tie.MeasureT-loop
-μ-loop n round j code crash reach grid₀ i₀ grid i = n - i
+μ-loop n round j code crash reaches grid₀ reach i₀ grid i = n - i
 
 returns : tie.Need-returns Inv-loop μ-loop
 returns c =
-    let a = c .before .args in
-    record { crashing = λ some same. absurd (some (omega arith)); other = λ _. refl; sent = nothing-added (a .round) (a .crash) (a .reach) (a .code) (inl (omega arith)) }
+    let a = c .before .before .args in
+    record { crashing = λ some same. absurd (some (omega arith)); other = λ _. refl; sent = nothing-added (a .round) (a .crash) _ (a .code) (inl (omega arith)) }
 
 returns-2 : tie.Need-returns-2 Inv-loop μ-loop
 returns-2 c =
-    let a = c .before .before .args in
+    let a = c .before .before .before .args in
     let past : a .crash ≢ a .round = λ e. omega arith in
-    record { crashing = λ some same. absurd (past same); other = λ _. refl; sent = nothing-added (a .round) (a .crash) (a .reach) (a .code) (inr past) }
+    record { crashing = λ some same. absurd (past same); other = λ _. refl; sent = nothing-added (a .round) (a .crash) _ (a .code) (inr past) }
+
+set-at-requires : tie.Need-set-at-requires Inv-loop μ-loop
+set-at-requires c κs = search needs
 
 loop-holds : tie.Need-loop-holds Inv-loop μ-loop
 loop-holds c = (omega arith, over-start refl)
@@ -59,12 +64,13 @@ loop-less c = omega arith
 
 loop-again : tie.Need-loop-again Inv-loop μ-loop
 loop-again c =
-    let a = c .before .before .before .before .before .before .args in
-    let at = c .before .before .before .loop in (
+    let a = c .before .before .before .before .before .before .before .before .args in
+    let at = c .before .before .before .loop in
+    let read = c .before .before .before .before .set-at .ensures in (
       omega arith,
       over-more (omega arith) (at .inv .1)
           (ap₂ (λ (row : List ℕ) (x : ℕ). set row (a .j) x) (over-past (at .inv .1) (at .i) [] (omega arith))
-          (c .heard-or-nothing .ensures ∙ ap (λ (b : Bool). cond b (a .code) nothing) (c .before .is-named .ensures))),
+          (c .heard-or-nothing .ensures ∙ ap (λ (b : Bool). cond b (a .code) nothing) (c .before .is-named .ensures ∙ ap (λ (reach : ℕ). names reach (at .i)) read))),
     )
 
 ones-requires : tie.Need-ones-requires Inv-loop μ-loop
@@ -75,13 +81,13 @@ same-length c = over-long (c .before .before .loop .inv .1) (omega arith)
 
 returns-3 : tie.Need-returns-3 Inv-loop μ-loop
 returns-3 c =
-    let a = c .before .before .before .before .before .args in
+    let a = c .before .before .before .before .before .before .before .args in
     let some : a .crash ≢ 0 = λ e. omega arith in
     let same : a .crash ≡ a .round = omega arith in
     record {
       crashing = λ _ _. over-all (c .before .before .loop .inv .1) (omega arith);
       other = λ e. absurd (⊎-elim some (λ past. past same) e);
-      sent = silence-added (a .round) (a .crash) (a .reach) (a .code) (omega arith);
+      sent = silence-added (a .round) (a .crash) _ (a .code) (omega arith);
     }
 
 same-length-2 : tie.Need-same-length-2 Inv-loop μ-loop
@@ -89,13 +95,13 @@ same-length-2 c = over-long (c .before .before .before .loop .inv .1) (omega ari
 
 returns-4 : tie.Need-returns-4 Inv-loop μ-loop
 returns-4 c =
-    let a = c .before .before .before .before .before .before .args in
+    let a = c .before .before .before .before .before .before .before .before .args in
     let some : a .crash ≢ 0 = λ e. omega arith in
     let same : a .crash ≡ a .round = omega arith in
     record {
       crashing = λ _ _. over-all (c .before .before .before .loop .inv .1) (omega arith);
       other = λ e. absurd (⊎-elim some (λ past. past same) e);
-      sent = c .ones .ensures ∙ reach-added (a .round) (a .crash) (a .reach) (a .code) (λ e. omega arith) some same;
+      sent = c .ones .ensures ∙ ap ones (c .before .before .before .before .set-at .ensures) ∙ reach-added (a .round) (a .crash) _ (a .code) (λ e. omega arith) some same;
     }
 
 pub enter-crashing-spec : {M : Type 1} → statement M
@@ -106,6 +112,7 @@ enter-crashing-spec =
     μ-loop
     returns
     returns-2
+    set-at-requires
     loop-holds
     is-named-requires
     heard-or-nothing-requires

@@ -4,6 +4,8 @@ use Rattle.laws.proofs.Answer.{answer-given, answer-kept}
 use Rattle.member.specs.declared.Member.{Member}
 use Rattle.run.specs.Protocol.{nobody}
 use Rattle.member.specs.Answers.{openedIs, openAnswer}
+use Rattle.execution.specs.Calls.{calls}
+use Rattle.execution.proofs.Turns.{nobody-says, opened-in-range}
 use borrow.Author.Needs.{needs}
 use Rattle.execution.proofs.calls.opened.Statement.{statement}
 use Rattle.execution.proofs.calls.opened.Tie as tie
@@ -14,6 +16,11 @@ open-requires c κs = search needs
 enum-known-answer : tie.Need-enum-known-answer
 enum-known-answer c = search needs
 
+in-turn-requires : tie.Need-in-turn-requires
+in-turn-requires c κs =
+    let a = c .before .before .before .before .args in
+    opened-in-range (a .n) (a .t) (a .id) (a .vote) (ap openedIs (sym (c .before .answer .given .1)) ∙ c .before .before .before .«open» .ensures)
+
 enum-told : tie.Need-enum-told
 enum-told c = search needs
 
@@ -22,13 +29,21 @@ no-member-requires c κs = search needs
 
 returns : tie.Need-returns
 unfolding openAnswer
-returns c = answer-given _ _ _ (λ (x : Member). x) nobody (ap openedIs (sym (c .before .answer .given .1)) ∙ c .before .before .before .«open» .ensures) .1
+returns c =
+    let opened = ap openedIs (sym (c .before .before .answer .given .1)) ∙ c .before .before .before .before .«open» .ensures in (
+      c .in-turn .ensures .0 ∙ answer-given _ _ _ (λ (x : Member). x) nobody opened .1,
+      c .in-turn .ensures .1 ∙ ap (calls .says) (sym (c .in-turn .ensures .0)),
+    )
 
 returns-2 : tie.Need-returns-2
 unfolding openAnswer
-returns-2 c = c .no-member .ensures ∙ answer-kept _ _ _ (λ (x : Member). x) nobody (ap openedIs (sym (c .before .enum-told .given .1)) ∙ c .before .before .before .«open» .ensures) .1
+returns-2 c =
+    let refused = ap openedIs (sym (c .before .enum-told .given .1)) ∙ c .before .before .before .«open» .ensures in (
+      c .no-member .ensures ∙ answer-kept _ _ _ (λ (x : Member). x) nobody refused .1,
+      nobody-says ∙ ap (calls .says) (sym (c .no-member .ensures)),
+    )
 
 pub opened-spec : {M : Type 1} → statement M
 opened-spec =
     tie.close
-    (tie.spec open-requires enum-known-answer enum-told no-member-requires returns returns-2)
+    (tie.spec open-requires enum-known-answer in-turn-requires enum-told no-member-requires returns returns-2)
