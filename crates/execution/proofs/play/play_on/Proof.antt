@@ -124,7 +124,7 @@ slice-aggregate-hear-rows : tie.Need-slice-aggregate-hear-rows Inv-loop μ-loop
 slice-aggregate-hear-rows c =
     let n = c .before .before .before .before .before .before .before .before .before .before .before .before .before .before .before .before .args .n in
     let at = c .before .before .before .before .before .before .before .before .loop in
-    codes-long n (at .members) (at .inv .said)
+    sym (codes-long n (at .members) (at .inv .said))
 
 hear-rows-requires : tie.Need-hear-rows-requires Inv-loop μ-loop
 hear-rows-requires c κs =
