@@ -105,11 +105,13 @@ fn opened(schedule: &Schedule) -> Vec<Member> {
 /// empty: it hears nothing.
 fn rows_of_round(schedule: &Schedule, members: &[Member], r: usize) -> Grid {
     let mut grid = [[NOTHING; LARGEST]; LARGEST];
-    for sender in members {
-        let code = sender.says();
-        for hearer in members {
-            let (i, j) = (hearer.own, sender.own);
-            if schedule.completes(i, r) && schedule.hears(i, j, r) {
+    let completing = (1..=schedule.n).filter(|i| schedule.completes(*i, r));
+    let hearers: Vec<usize> = completing.collect();
+    // A sender that says nothing leaves its places as they are.
+    for sender in members.iter().filter(|member| member.says() != NOTHING) {
+        let (j, code) = (sender.own, sender.says());
+        for i in &hearers {
+            if schedule.hears(*i, j, r) {
                 grid[i - 1][j - 1] = code;
             }
         }

@@ -13,7 +13,7 @@ fn counted(t: usize, crashes: &[u8]) -> (usize, usize) {
 }
 
 /// t of all sizes.
-const ANY_T: [usize; 8] = [0, 1, 3, 31, 80, 1 << 32, usize::MAX - 1, usize::MAX];
+const ANY_T: [usize; 8] = [0, 1, 3, 63, 144, 1 << 32, usize::MAX - 1, usize::MAX];
 
 #[test]
 fn an_empty_table_has_nobody_to_look_at() {

@@ -130,6 +130,87 @@ fn hearing_up_to_the_last_round() {
     assert_eq!(heard(member(5, 1, 0), [0, 2, 0, 0, 0]), (1, 5));
 }
 
+/// Members with the last own number in clusters of 33 and 64, and those that their sizes and numbers shut out.
+#[test]
+fn opening_in_a_large_cluster() {
+    for (n, t) in [(33, 32), (33, 3), (64, 63), (64, 3)] {
+        let opened = Member::open(n, t, n, 1).expect("the member is opened");
+        assert_eq!(opened.to_bytes(), [n as u8, t as u8, n as u8, 1, 1, 0]);
+        assert_eq!(Member::open(n, n, n, 1), Err(Refusal::CrashLimit));
+        assert_eq!(Member::open(n, t, n + 1, 1), Err(Refusal::OwnNumber));
+    }
+    assert_eq!(Member::open(65, 63, 64, 1), Err(Refusal::Processes));
+}
+
+/// A member of n = 64, t = 63 with own number 64 and estimate 1.
+fn member_64(round: usize, decided: usize) -> Member {
+    Member {
+        n: 64,
+        t: 63,
+        own: 64,
+        round,
+        estimate: 1,
+        decided,
+    }
+}
+
+/// Its estimate and decided round after a row with so many estimates 1 at the end, its own included, and else nothing.
+fn heard_64(round: usize, estimates: usize) -> (u8, usize) {
+    let mut row = [0; 64];
+    row[64 - estimates..].fill(2);
+    let next = member_64(round, 0).hear(&row);
+    let next = next.expect("the row is accepted");
+    (next.estimate, next.decided)
+}
+
+#[test]
+fn hearing_in_a_cluster_of_64() {
+    assert_eq!(heard_64(1, 64), (1, 0));
+    assert_eq!(heard_64(1, 63), (0, 0));
+    assert_eq!(heard_64(2, 64), (1, 2));
+    assert_eq!(heard_64(2, 63), (1, 0));
+    // Round 62 = t - 1: 60 processes may be silent.
+    assert_eq!(heard_64(62, 4), (1, 62));
+    assert_eq!(heard_64(62, 3), (1, 0));
+    // Round 63 = t: n - t + 1 = 2 estimates.
+    assert_eq!(heard_64(63, 2), (1, 63));
+    assert_eq!(heard_64(63, 1), (1, 0));
+    // Round 64 = t + 1.
+    assert_eq!(heard_64(64, 1), (1, 64));
+    for length in [0, 32, 63, 65, 128] {
+        let heard = member_64(1, 0).hear(&vec![2; length]);
+        assert_eq!(heard, Err(Refusal::RowLength));
+    }
+}
+
+/// The largest numbers of a state: decided in round t + 1 = 64 with round t + 2 = 65.
+#[test]
+fn the_last_rounds_of_a_cluster_of_64() {
+    assert_eq!(member_64(64, 0).say(), Ok(2));
+    assert_eq!(member_64(64, 63).say(), Ok(4));
+    let stopped = member_64(65, 64);
+    assert_eq!(stopped.say(), Ok(0));
+    assert_eq!(stopped.hear(&[0; 64]), Err(Refusal::Stopped));
+    assert_eq!(stopped.to_bytes(), [64, 63, 64, 65, 1, 64]);
+    assert_eq!(Member::from_bytes([64, 63, 64, 65, 1, 64]), stopped);
+    let out_of_range = [
+        member_64(65, 0),
+        member_64(66, 64),
+        member_64(66, 65),
+        Member {
+            n: 65,
+            ..member_64(1, 0)
+        },
+        Member {
+            own: 65,
+            ..member_64(1, 0)
+        },
+    ];
+    for state in out_of_range {
+        assert_eq!(state.say(), Err(Refusal::State), "{state:?}");
+    }
+}
+
 #[test]
 fn hearing_a_decision() {
     assert_eq!(heard(member(3, 1, 0), [3, 2, 0, 0, 0]), (0, 3));

@@ -125,17 +125,17 @@ fn s_falls_on_t_plus_1() {
     expect(6, &[1, 1, 2, 3, 4, 6, 0, 0], 7, 7);
     // By rounds 2 to 6: 1, 2, 3, 4, 6, which is the least that will do in each.
     expect(6, &[2, 3, 4, 5, 6, 6, 0, 0], 7, 7);
-    // One crash a round from 1 to 31, in the largest cluster: r crashes by round r, and t by t.
-    let mut crashes: Vec<u8> = (1..=32).collect();
-    crashes[31] = 0;
-    expect(31, &crashes, 32, 32);
+    // One crash a round from 1 to 63, in the largest cluster: r crashes by round r, and t by t.
+    let mut crashes: Vec<u8> = (1..=64).collect();
+    crashes[63] = 0;
+    expect(63, &crashes, 64, 64);
 }
 
 /// One crash in each of the rounds 1 to f: r crashes by round r, so that S is B.
 #[test]
 fn one_crash_a_round_from_1_on_at_every_size() {
     for (n, t) in SIZES.flat_map(|n| (MIN_CRASHES..n).map(move |t| (n, t))) {
-        for f in 0..=t {
+        for f in numbers_of_crashes(t) {
             // f crashes are too few for round f + 2, if it is before t; from f = t - 2 on only round t is left, where
             // f = t is enough.
             let settling = match t - f {
@@ -152,13 +152,18 @@ fn one_crash_a_round_from_1_on_at_every_size() {
 #[test]
 fn one_crash_a_round_from_2_on_at_every_size() {
     for (n, t) in SIZES.flat_map(|n| (MIN_CRASHES..n).map(move |t| (n, t))) {
-        for f in 0..=t {
+        for f in numbers_of_crashes(t) {
             // t - 1 crashes by t are too few in any case; with f = t the last crash is of round t + 1.
             let settling = t.min(f + 2);
             let b = if f == t { t + 1 } else { settling };
             expect(t, &one_a_round(n, f, 2), settling, b);
         }
     }
+}
+
+/// Numbers of crashes from 0 to t: all for a small t; for a larger one the ends, where S turns, and the middle.
+fn numbers_of_crashes(t: usize) -> impl Iterator<Item = usize> {
+    (0..=t).filter(move |f| t < 16 || *f < 2 || *f == t / 2 || f + 3 >= t)
 }
 
 /// The k-th process crashes in round k - 1 + `from`, k from 1 to f.

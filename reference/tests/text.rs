@@ -130,6 +130,21 @@ fn too_long_texts() {
     assert_eq!(refused(&text), (8, 0, vec![]));
 }
 
+/// The text of 64 processes without a crash: 30 bytes in lines 1 to 3, 71 for each of processes 1 to 9, and 72 for each
+/// of the other 55.
+#[test]
+fn a_large_text_filled_up() {
+    let mut text = write(&Schedule::quiet(64, 63));
+    assert_eq!(text.len(), 30 + 9 * 71 + 55 * 72);
+    assert!(read(&text).is_ok());
+    let filling = vec![b'x'; 8_192 - text.len()];
+    text.extend_from_slice(&filling);
+    assert_eq!(refused(&text), (9, 68, filling));
+    text.push(b'x');
+    assert_eq!(text.len(), 8_193);
+    assert_eq!(refused(&text), (8, 0, vec![]));
+}
+
 #[test]
 fn lines_of_a_text() {
     let text = b"one\n\nthree";
@@ -138,6 +153,8 @@ fn lines_of_a_text() {
     assert_eq!(lines, expected);
 }
 
+/// One process at least doesn't crash, and its crash round has a single digit; all others have two. Lines 1 to 3 have
+/// 30 bytes, and those of processes 1 to 9 one less than the others: 30 + 9 * 72 + 55 * 73 - 1 = 4692.
 #[test]
 fn the_longest_text_is_read_back() {
     let mut schedule = Schedule::quiet(LARGEST, LARGEST - 1);
@@ -146,6 +163,17 @@ fn the_longest_text_is_read_back() {
         schedule.reaches[i - 1] = 1;
     }
     let text = write(&schedule);
-    assert!(text.len() <= LONGEST);
+    assert_eq!(text.len(), 4_692);
     assert_eq!(read(&text), Ok(schedule));
+}
+
+/// The same with a crash of process 1, too: one byte more, and one crash too many.
+#[test]
+fn the_longest_text_of_right_form_is_refused_by_7() {
+    let mut schedule = Schedule::quiet(64, 63);
+    schedule.crashes.fill(64);
+    let text = write(&schedule);
+    assert_eq!(text.len(), 4_693);
+    let last = format!("64 1 64 {}", "0".repeat(64));
+    assert_eq!(refused(&text), (7, 67, last.into_bytes()));
 }

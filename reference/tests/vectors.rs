@@ -16,7 +16,7 @@ fn texts() -> Vec<PathBuf> {
     let texts: Vec<PathBuf> = paths
         .filter(|path| path.extension().map_or(false, |end| end == "text"))
         .collect();
-    assert!(texts.len() >= 188, "only {} texts", texts.len());
+    assert!(texts.len() >= 287, "only {} texts", texts.len());
     texts
 }
 

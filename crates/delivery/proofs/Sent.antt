@@ -7,7 +7,7 @@ use mathlib.Core.Bool.{Bool, true, false, cond, not}
 use Prim.Native.Nat.{ℕ, _+_, _-_, _*_, _^_, _≤_, _<_, zero-le}
 use native.Mathlib.Nat.{le-trans, le-of-eq, mul-le-mul, mul-one, mul-zero}
 use native.Mathlib.Omega.{arith}
-use lib.Count.{ones, ones-le}
+use lib.Count.{ones}
 use lib.Dec.{eqb}
 use lib.ListN.{getD}
 use borrow.Author.Tests.{eqb-true, eqb-false, ne-eqb}
@@ -18,7 +18,7 @@ use Rattle.laws.proofs.Counting.{count-same}
 use Rattle.laws.proofs.Sums.{sum-same, sum-high, sum-parts, count-ends}
 use Rattle.sets.specs.Largest.{largest}
 use Rattle.sets.specs.Tables.{padded}
-use Rattle.sets.proofs.Theorem.{table-facts}
+use Rattle.sets.proofs.Theorem.{width-facts, table-facts}
 use Rattle.member.specs.Saying.{nothing}
 use Rattle.run.specs.Run.{completesRound}
 use Rattle.run.specs.Report.{sentBy, messagesOf}
@@ -33,7 +33,7 @@ both-high b x y high p q =
 sent-few : (width n r c reach code : ℕ) → n ≤ width → reach < 2 ^ width → sentBy n r c reach code ≤ width
 unfolding sentBy
 sent-few width n r c reach code small low =
-    both-high (eqb code 0) 0 _ width zero-le (both-high (completesRound r c) (n - 1) _ width (omega arith) (both-high (eqb c r) (ones reach) 0 width (ones-le width reach low) zero-le))
+    both-high (eqb code 0) 0 _ width zero-le (both-high (completesRound r c) (n - 1) _ width (omega arith) (both-high (eqb c r) (ones reach) 0 width (width-facts width .few reach low) zero-le))
 
 -- whether a sender that completes the round says something
 abbrev speaks : ℕ → ℕ → ℕ → Bool

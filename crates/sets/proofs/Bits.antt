@@ -12,7 +12,7 @@ use lib.Count.{ones, ones-step}
 use lib.Dec.{eqb}
 use lib.Pow as Pow
 use borrow.Author.Count.{below-none}
-use borrow.Author.Tests.{eqb-true, eqb-false, lt-ltb, le-ltb}
+use borrow.Author.Tests.{eqb-true, eqb-false, ltb-true, lt-ltb, le-ltb}
 use Rattle.laws.specs.Below.{bit, count, sum}
 use Rattle.laws.proofs.Test.{true-or-false}
 use Rattle.laws.proofs.Below.{bit-high, bit-same}
@@ -30,6 +30,10 @@ past-power set n h = le-ltb set (2 ^ n) (omega (arith, le-div-iff-mul-le {x = 1}
 -- a set of fewer bits than n
 pub narrow : (width n set : ℕ) → set < 2 ^ width → width ≤ n → upTo n set ≡ true
 narrow width n set short past = lt-ltb set (2 ^ n) (lt-of-lt-of-le short (Pow.pow-mono {i = width} {j = n} past))
+
+-- and one of no more bits than n
+pub within-width : (width n set : ℕ) → n ≤ width → upTo n set ≡ true → set < 2 ^ width
+within-width width n set small e = lt-of-lt-of-le (ltb-true set (2 ^ n) e) (Pow.pow-mono {i = n} {j = width} small)
 
 pub names-nobody : (n set i : ℕ) → set < 2 ^ n → n ≤ i → names set i ≡ false
 unfolding names
@@ -144,3 +148,21 @@ module _ (p : ℕ → Bool) (n : ℕ) where
 
   pub passing-named : (j : ℕ) → j < n → names (setOf n (λ k. bit (p k))) j ≡ p j
   passing-named j l = bit-same _ (p j) (set-bits (λ k. bit (p k)) n (λ k _. bit-high (p k)) j l)
+
+-- All processes 1 to n.
+
+everybody-is : (n : ℕ) → setOf n (λ k. bit true) ≡ 2 ^ n - 1
+unfolding sum
+everybody-is zero = refl
+everybody-is (suc n) =
+    let before = everybody-is n in
+    let some = Pow.pow-pos n in
+    let twice : 2 ^ suc n ≡ 2 ^ n * 2 = pow-suc 2 n in
+    omega arith
+
+module _ (n : ℕ) where
+  pub everybody-up-to : upTo n (2 ^ n - 1) ≡ true
+  everybody-up-to = let some = Pow.pow-pos n in lt-ltb (2 ^ n - 1) (2 ^ n) (omega arith)
+
+  pub everybody-named : (i : ℕ) → i < n → names (2 ^ n - 1) i ≡ true
+  everybody-named i l = ap (λ (set : ℕ). names set i) (sym (everybody-is n)) ∙ passing-named (λ _. true) n i l

@@ -11,8 +11,9 @@ use crate::random::Random;
 /// always a difference.
 pub type CountCrashes<'a> = &'a (dyn Fn(usize, &[u8]) -> Result<CrashCount, u8> + Sync);
 
-/// Up to this length every one is met: it is above those of clusters, and above the bits of a number.
-pub const LONGEST_TABLE: usize = 80;
+/// Up to this length every one is met: it is more than twice that of the largest cluster, and above the bits of a
+/// number.
+pub const LONGEST_TABLE: usize = 2 * LARGEST + 16;
 
 /// How many such lengths there are, 0 being one of them.
 pub const LENGTHS: usize = LONGEST_TABLE + 1;
@@ -246,7 +247,8 @@ mod tests {
         let all = (0..LENGTHS).flat_map(|n| (0..LONGER).map(move |kind| (n, kind)));
         assert!(met.into_iter().eq(all));
         assert_eq!(longer.len(), LENGTHS);
-        assert!(longer.iter().all(|(n, _)| (200..=880).contains(n)));
+        let lengths = 200..=LONGEST_TABLE + 800;
+        assert!(longer.iter().all(|(n, _)| lengths.contains(n)));
         assert!(longer.iter().any(|(n, _)| *n > 256));
     }
 

@@ -283,10 +283,12 @@ fn other_heading(random: &mut Random, _: &Schedule, text: &mut Vec<u8>) {
     });
 }
 
-/// A number of the two ranges, as often of the first as of the second.
+/// A number of two digits below `low` or above `high`, often the next one.
 fn outside(random: &mut Random, low: usize, high: usize) -> usize {
-    match random.below(2) {
-        0 => random.within(0..=low - 1),
+    match random.below(4) {
+        0 => low - 1,
+        1 => high + 1,
+        2 => random.within(0..=low - 1),
         _ => random.within(high + 1..=99),
     }
 }

@@ -45,20 +45,38 @@ pub fn sizes() -> Vec<(usize, usize)> {
         .collect()
 }
 
-/// The schedule of a case and its family. The sizes are walked: each comes up once in as many cases as there are
-/// sizes. The walk is shifted by one each time, so that every family meets every size.
-pub fn of_case(random: &mut Random, case: u64) -> (usize, Schedule) {
-    let sizes = sizes();
+/// How far apart in the table of sizes two neighbours of a walk over them are, counted round: so that a short walk is
+/// spread over all of them.
+const STRIDE: usize = 1_169;
+
+// So a walk meets every size.
+const _: () = assert!(common_divisor(STRIDE, SIZES_COUNT) == 1);
+
+const fn common_divisor(one: usize, other: usize) -> usize {
+    match other {
+        0 => one,
+        _ => common_divisor(other, one % other),
+    }
+}
+
+/// The size at a place of the walk over all sizes, which are given: each comes up once in as many places as there are
+/// sizes.
+pub fn walked(sizes: &[(usize, usize)], place: usize) -> (usize, usize) {
+    sizes[place % sizes.len() * STRIDE % sizes.len()]
+}
+
+/// The schedule of a case and its family. All sizes are given, and walked; the walk is shifted by one each time, so
+/// that every family meets every size.
+pub fn of_case(random: &mut Random, sizes: &[(usize, usize)], case: u64) -> (usize, Schedule) {
     let (place, walk) = (case as usize, case as usize / sizes.len());
-    let (n, t) = sizes[(place + walk) % sizes.len()];
+    let (n, t) = walked(sizes, place + walk);
     let family = place % FAMILIES.len();
     let (_, make) = FAMILIES[family];
     (family, make(random, n, t))
 }
 
-/// A schedule of any family and any size.
-pub fn any(random: &mut Random) -> Schedule {
-    let (n, t) = random.pick(&sizes());
+/// A schedule of any family with these n and t.
+pub fn of_size(random: &mut Random, (n, t): (usize, usize)) -> Schedule {
     let (_, make) = random.pick(&FAMILIES);
     make(random, n, t)
 }
@@ -341,14 +359,27 @@ mod tests {
     }
 
     #[test]
+    fn a_short_walk_is_spread_over_all_sizes() {
+        let sizes = sizes();
+        for start in 0..sizes.len() {
+            let met: Vec<(usize, usize)> = (start..start + 40)
+                .map(|place| walked(&sizes, place))
+                .collect();
+            assert!(met.iter().any(|(n, _)| *n >= LARGEST - 2), "from {start}");
+            assert!(met.iter().any(|(n, _)| *n <= LARGEST / 4), "from {start}");
+        }
+    }
+
+    #[test]
     fn cases_walk_over_all_sizes() {
+        let sizes = sizes();
         let size = |case| {
-            let (_, schedule) = of_case(&mut Random::of_case(1, 9, case), case);
+            let (_, schedule) = of_case(&mut Random::of_case(1, 9, case), &sizes, case);
             (schedule.n, schedule.t)
         };
         let count = SIZES_COUNT as u64;
         let mut met: Vec<(usize, usize)> = (count..2 * count).map(size).collect();
         met.sort_unstable();
-        assert_eq!(met, sizes());
+        assert_eq!(met, sizes);
     }
 }

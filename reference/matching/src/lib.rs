@@ -8,6 +8,7 @@ pub mod crashes;
 pub mod damage;
 pub mod demands;
 pub mod generate;
+pub mod limits;
 pub mod members;
 pub mod outcome;
 pub mod plants;

@@ -1,10 +1,10 @@
 //! Openings, sayings and hearings, accepted and refused, through the machine under test and through the reference.
 
 use reference::member::{Member, DECIDED_0, DECIDED_1, ESTIMATE_0, ESTIMATE_1, NOTHING};
-use reference::questions::Refusal;
+use reference::questions::{Refusal, MIN_CRASHES, SIZES};
 use reference::LARGEST;
 
-use crate::generate::sizes;
+use crate::generate::{sizes, walked};
 use crate::outcome::{share, Outcome};
 use crate::random::Random;
 
@@ -74,6 +74,14 @@ enum Answer {
 }
 
 impl Call {
+    /// n and t.
+    fn size(&self) -> (usize, usize) {
+        match self {
+            Call::Open { n, t, .. } => (*n, *t),
+            Call::Say { state } | Call::Hear { state, .. } => (state[0].into(), state[1].into()),
+        }
+    }
+
     fn answer(&self, machine: &dyn Machine) -> Answer {
         match self {
             Call::Open { n, t, own, vote } => Answer::Opened(machine.open(*n, *t, *own, *vote)),
@@ -97,17 +105,20 @@ impl Answer {
     }
 }
 
-/// Compares so many calls.
+/// Compares so many calls. The sizes are walked: each comes up once with every kind, and then the next one.
 pub fn compare(seed: u64, count: u64, machine: &dyn Machine) -> Outcome {
     let sizes = sizes();
     share(count, KINDS.len(), |outcome, case| {
         let mut random = Random::of_case(seed, MEMBERS, case);
-        let kind = case as usize % KINDS.len();
+        let (walk, kind) = (case as usize / KINDS.len(), case as usize % KINDS.len());
         let (_, make) = KINDS[kind];
-        let member = in_range(&mut random, &sizes);
+        let member = in_range(&mut random, walked(&sizes, walk));
         let call = make(&mut random, member);
         let (expected, found) = (call.answer(&ByReference), call.answer(machine));
         outcome.count(kind, expected.refusal());
+        if expected.refusal().is_none() {
+            outcome.sizes.insert(call.size());
+        }
         outcome.compare(case, expected == found, || {
             format!("call: {call:?}\nreference: {expected:?}\nunder test: {found:?}\n")
         });
@@ -135,9 +146,12 @@ pub const KINDS: [(&str, Make); 14] = [
     ("hear several wrong things", hear_several),
 ];
 
-/// A state in range.
-fn in_range(random: &mut Random, sizes: &[(usize, usize)]) -> Member {
-    let (n, t) = random.pick(sizes);
+/// A state in range with these n and t, or, now and then, of the largest cluster.
+fn in_range(random: &mut Random, size: (usize, usize)) -> Member {
+    let (n, t) = match random.below(8) {
+        0 => (LARGEST, random.within(MIN_CRASHES..=LARGEST - 1)),
+        _ => size,
+    };
     let mut member = Member {
         n,
         t,
@@ -167,11 +181,12 @@ fn open(random: &mut Random, member: Member) -> Call {
 fn open_with_one_value(random: &mut Random, member: Member) -> Call {
     let (mut n, mut t, mut own) = (member.n, member.t, member.own);
     let mut vote = member.estimate;
-    match random.below(5) {
+    match random.below(6) {
         0 => n = random.any_size(),
         1 => t = random.any_size(),
         2 => own = random.any_size(),
         3 => own = n + random.below(2),
+        4 => n = random.pick(&[SIZES.start() - 1, SIZES.end() + 1]),
         _ => vote = random.byte(),
     }
     Call::Open { n, t, own, vote }

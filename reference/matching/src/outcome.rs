@@ -40,7 +40,7 @@ pub struct Outcome {
     pub met: [u64; LAST_NUMBER + 1],
     /// How often each kind of case came up.
     pub kinds: Vec<Kind>,
-    /// The sizes n and t of the accepted schedules.
+    /// The sizes n and t of the accepted schedules and calls.
     pub sizes: BTreeSet<(usize, usize)>,
     /// The lengths of the tables in which crashes were counted.
     pub lengths: BTreeSet<usize>,

@@ -6,26 +6,29 @@ use reference::report::answer;
 use reference::run::{Run, NONE};
 use reference::schedule::{bit, Schedule};
 use reference::so_far::{crashes_by, settling_round, Rule, RULE};
+use reference::LARGEST;
 
 use crate::crashes::{self, CountCrashes};
+use crate::limits::{self, Cut, Refuse, UpTo, CUTS, REFUSED};
 use crate::members::{self, Machine};
 use crate::outcome::{share, Outcome};
 use crate::random::Random;
 use crate::summary::{spelled, Summary};
 use crate::tables::{self, by_reference, Simulate};
 use crate::texts::{self, Program};
-use crate::whole::{check_lengths, check_small_count, check_small_equalities};
+use crate::whole::{check_lengths, check_sizes, check_small_count, check_small_equalities};
 use crate::wrong::{self, Change, Hear, Wrong, COUNTS, CRASHES, ENDS, FIRSTS, RIGHT, TURNS};
 use crate::wrong::{LOOSE, RULES};
 use crate::{demands, generate, small};
 
-/// The seed and the counts of the self-test. Every size comes up twice among the valid texts, and every length of a
-/// table with every kind of count of crashes.
+/// The seed and the counts of the self-test. Every size comes up among the finished runs, every second one among the
+/// valid texts, and every length of a table with every kind of count of crashes.
 const SEED: u64 = 1;
-const VALID: u64 = 2 * generate::SIZES_COUNT as u64;
+const SIZES: u64 = generate::SIZES_COUNT as u64;
+const VALID: u64 = SIZES / 2;
 const DAMAGED: u64 = 1_400;
 const STEP: usize = 97;
-const TABLES: u64 = 15_000;
+const TABLES: u64 = 9_000;
 const CRASH_COUNTS: u64 = 2 * (crashes::KINDS.len() * crashes::LENGTHS) as u64;
 const MEMBERS: u64 = 70_000;
 
@@ -96,7 +99,7 @@ pub fn controls() -> Vec<Plant> {
     const NAME: &str = "nothing planted";
     let right = |text: &[u8]| Ok(answer(text));
     vec![
-        valid(NAME, &right),
+        sized(NAME, SIZES, &right),
         damaged(NAME, &right),
         every_nth(NAME, &by_reference),
         promised(NAME, Member::after, unchanged),
@@ -117,11 +120,12 @@ pub fn plants() -> Vec<Plant> {
     plants.extend(in_promises());
     plants.extend(in_rounds_by_crashes());
     plants.extend(in_members());
+    plants.extend(in_limits());
     plants
 }
 
-/// Faults other than differences: a refusal number that is never met, a schedule left out, a length left out, and
-/// rules of the crashes so far that no run breaks.
+/// Faults other than differences: a refusal number that is never met, a schedule left out, a size left out, a length
+/// left out, and rules of the crashes so far that no run breaks.
 pub fn faults() -> Vec<Plant> {
     let right = |text: &[u8]| Ok(answer(text));
     let few = texts::compare_damaged(SEED, 3, &right);
@@ -133,6 +137,7 @@ pub fn faults() -> Vec<Plant> {
     let mut faults = vec![
         Plant::new("damaged texts", name, few, &texts::NUMBERS),
         left_out,
+        sized("one size left out", SIZES - 1, &right),
         short,
     ];
     let loose = LOOSE.into_iter();
@@ -286,8 +291,85 @@ fn in_members() -> Vec<Plant> {
     ]
 }
 
+/// The wrong limits, and sets and numbers that are too narrow, that document 02's K11 invites.
+fn in_limits() -> Vec<Plant> {
+    let mut plants = Vec::new();
+    plants.extend(REFUSED.into_iter().flat_map(still_refused));
+    plants.extend(CUTS.into_iter().flat_map(cut));
+    plants.extend(too_narrow());
+    plants.extend(old_limits());
+    plants.extend(one_more_let_in());
+    plants
+}
+
+fn still_refused((name, refuse): (&'static str, Refuse)) -> [Plant; 2] {
+    [
+        valid(name, &limits::program_refusing(refuse)),
+        called(name, &limits::simulate_refusing(refuse)),
+    ]
+}
+
+fn cut((name, cut): (&'static str, Cut)) -> [Plant; 2] {
+    [
+        valid(name, &limits::program_cutting(cut)),
+        called(name, &limits::simulate_cutting(cut)),
+    ]
+}
+
+/// Numbers that are too narrow for the largest cluster.
+fn too_narrow() -> Vec<Plant> {
+    let messages = "messages kept in two bytes";
+    let estimates = "64 estimates counted in six bits";
+    let (right, kept) = (Member::after, limits::messages_in_two_bytes);
+    let hear = limits::estimates_in_six_bits;
+    vec![
+        valid(messages, &wrong::program_by(right, kept)),
+        called(messages, &wrong::simulate_by(right, kept)),
+        valid(estimates, &wrong::program_by(hear, unchanged)),
+        called(estimates, &wrong::simulate_by(hear, unchanged)),
+        machine(estimates, &Wrong { hear, ..RIGHT }),
+    ]
+}
+
+/// Limits of document 01, apart from those of an accepted schedule.
+fn old_limits() -> Vec<Plant> {
+    let texts = "texts over 2,048 bytes still refused";
+    vec![
+        valid(texts, &limits::short_texts_only),
+        damaged(texts, &limits::short_texts_only),
+        called(
+            "a rounds table that is too long above n = 32",
+            &limits::long_table_above_32,
+        ),
+        counted("crashes above process 32 left out", &limits::crashes_of_32),
+        machine("n above 32 still refused", &UpTo(limits::OLD_LARGEST)),
+    ]
+}
+
+/// What is just beyond a limit, let in. (A text of LONGEST + 1 bytes stands among the texts.)
+fn one_more_let_in() -> Vec<Plant> {
+    vec![
+        damaged("n = 65 let in", &wrong::refused_by(limits::line_of_65)),
+        called("n = 65 let in", &limits::tables_of_65),
+        machine("n = 65 let in", &UpTo(LARGEST + 1)),
+        called("process 64 named at n = 63", &limits::process_64_of_63),
+        called("any reach let pass at n = 64", &limits::any_reach_of_64),
+    ]
+}
+
 fn valid(name: &'static str, program: Program) -> Plant {
-    let outcome = texts::compare_valid(SEED, VALID, program);
+    valid_times(name, VALID, program)
+}
+
+/// The same on so many texts, which have to be of all sizes.
+fn sized(name: &'static str, count: u64, program: Program) -> Plant {
+    let mut plant = valid_times(name, count, program);
+    check_sizes(&mut plant.summary, plant.part, &plant.outcome);
+    plant
+}
+
+fn valid_times(name: &'static str, count: u64, program: Program) -> Plant {
+    let outcome = texts::compare_valid(SEED, count, program);
     Plant::new("valid texts", name, outcome, &[])
 }
 
@@ -334,9 +416,10 @@ fn ruled(name: &'static str, rule: &Rule) -> Plant {
 }
 
 fn finished(name: &'static str, rule: &Rule, hear: Hear, change: Change) -> Plant {
-    let outcome = share(VALID, 0, |outcome, case| {
+    let sizes = generate::sizes();
+    let outcome = share(SIZES, 0, |outcome, case| {
         let mut random = Random::of_case(SEED, 0, case);
-        let (_, schedule) = generate::of_case(&mut random, case);
+        let (_, schedule) = generate::of_case(&mut random, &sizes, case);
         let run = wrong::changed_run(&schedule, hear, change);
         demands::check_by(rule, outcome, case, &schedule, &run);
     });

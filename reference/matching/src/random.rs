@@ -30,9 +30,9 @@ impl Random {
         bits ^ (bits >> 31)
     }
 
-    /// Any set: the highest of the next 64 bits.
+    /// Any set.
     pub fn bits(&mut self) -> Set {
-        (self.next() >> (u64::BITS - Set::BITS)) as Set
+        self.next()
     }
 
     /// Any byte.

@@ -5,7 +5,7 @@ use reference::run::{self, Counts};
 use reference::schedule::{bit, Schedule};
 use reference::LARGEST;
 
-use crate::generate::any;
+use crate::generate::{of_size, sizes, walked};
 use crate::outcome::{share, Outcome};
 use crate::random::Random;
 
@@ -69,24 +69,28 @@ pub fn compare_answers(
     });
 }
 
-/// Compares so many calls.
+/// Compares so many calls. The sizes are walked: each comes up once with every kind, and then the next one.
 pub fn compare(seed: u64, count: u64, simulate: Simulate) -> Outcome {
+    let sizes = sizes();
     share(count, KINDS.len(), |outcome, case| {
         let mut random = Random::of_case(seed, TABLES, case);
-        let kind = case as usize % KINDS.len();
-        let mut call = accepted_call(&mut random);
+        let (walk, kind) = (case as usize / KINDS.len(), case as usize % KINDS.len());
+        let mut call = accepted_call(&mut random, walked(&sizes, walk));
         let (_, change) = KINDS[kind];
         change(&mut random, &mut call);
         let expected = call.answer(&by_reference);
         outcome.count(kind, expected.counts.err());
+        if expected.counts.is_ok() {
+            outcome.sizes.insert((call.schedule.n, call.schedule.t));
+        }
         let found = call.answer(simulate);
         compare_answers(outcome, case, &call, &expected, &found);
     })
 }
 
 /// An accepted call with anything in the answer tables.
-fn accepted_call(random: &mut Random) -> Call {
-    let schedule = any(random);
+fn accepted_call(random: &mut Random, size: (usize, usize)) -> Call {
+    let schedule = of_size(random, size);
     let mut table = || (0..schedule.n).map(|_| random.byte()).collect();
     let (decisions, rounds) = (table(), table());
     Call {

@@ -6,7 +6,7 @@ use reference::text::{read, write};
 
 use crate::damage::{damaged, DAMAGES};
 use crate::demands;
-use crate::generate::{any, of_case, FAMILIES};
+use crate::generate::{of_case, of_size, sizes, FAMILIES};
 use crate::outcome::{share, Outcome};
 use crate::random::Random;
 
@@ -22,9 +22,10 @@ const DAMAGED: u64 = 2;
 
 /// Compares so many texts of accepted schedules.
 pub fn compare_valid(seed: u64, count: u64, program: Program) -> Outcome {
+    let sizes = sizes();
     share(count, FAMILIES.len(), |outcome, case| {
         let mut random = Random::of_case(seed, VALID, case);
-        let (family, schedule) = of_case(&mut random, case);
+        let (family, schedule) = of_case(&mut random, &sizes, case);
         let text = write(&schedule);
         assert_eq!(read(&text), Ok(schedule), "a generated text is accepted");
         compare(outcome, case, family, &text, program);
@@ -33,11 +34,13 @@ pub fn compare_valid(seed: u64, count: u64, program: Program) -> Outcome {
 
 /// Compares damaged texts until so many are refused; those still accepted are compared and counted apart.
 pub fn compare_damaged(seed: u64, count: u64, program: Program) -> Outcome {
+    let sizes = sizes();
     share(count, DAMAGES.len(), |outcome, case| {
         let mut random = Random::of_case(seed, DAMAGED, case);
         let kind = case as usize % DAMAGES.len();
         loop {
-            let schedule = any(&mut random);
+            let size = random.pick(&sizes);
+            let schedule = of_size(&mut random, size);
             let text = damaged(&mut random, &schedule, kind);
             if compare(outcome, case, kind, &text, program).is_some() {
                 break;

@@ -51,19 +51,28 @@ fn names<'a, T>(kinds: &[(&'a str, T)]) -> Vec<&'a str> {
     kinds.iter().map(|(name, _)| *name).collect()
 }
 
+/// How many sizes were met with something accepted, in words.
+fn sizes_met(outcome: &Outcome) -> String {
+    let (met, all) = (outcome.sizes.len(), generate::SIZES_COUNT);
+    format!("{met} of {all} sizes n and t")
+}
+
+/// Something of every size has to be accepted.
+pub fn check_sizes(summary: &mut Summary, part: &str, outcome: &Outcome) {
+    if outcome.sizes.len() != generate::SIZES_COUNT {
+        let met = sizes_met(outcome);
+        summary.fault(format!("{part}: accepted in only {met}"));
+    }
+}
+
 fn match_texts(summary: &mut Summary, seed: u64, arguments: &Arguments, path: &Path) {
     let program = |text: &[u8]| program::answer(path, text);
     if asked("valid texts", arguments.valid) {
         let outcome = texts::compare_valid(seed, arguments.valid, &program);
-        let (met, all) = (outcome.sizes.len(), generate::sizes().len());
-        let heading = format!("valid texts, seed {seed}, {met} of {all} sizes n and t");
-        add(
-            summary,
-            &heading,
-            &names(&generate::FAMILIES),
-            &outcome,
-            &[],
-        );
+        let heading = format!("valid texts, seed {seed}, {}", sizes_met(&outcome));
+        let names = names(&generate::FAMILIES);
+        add(summary, &heading, &names, &outcome, &[]);
+        check_sizes(summary, "valid texts", &outcome);
     }
     if asked("damaged texts", arguments.damaged) {
         let outcome = texts::compare_damaged(seed, arguments.damaged, &program);
@@ -106,14 +115,10 @@ pub fn check_small_equalities(summary: &mut Summary, outcome: &Outcome) {
 fn match_tables(summary: &mut Summary, seed: u64, count: u64) {
     if asked("calls on tables", count) {
         let outcome = tables::compare(seed, count, &simulate);
-        let heading = format!("calls on tables, seed {seed}");
-        add(
-            summary,
-            &heading,
-            &names(&tables::KINDS),
-            &outcome,
-            &tables::NUMBERS,
-        );
+        let heading = format!("calls on tables, seed {seed}, {}", sizes_met(&outcome));
+        let names = names(&tables::KINDS);
+        add(summary, &heading, &names, &outcome, &tables::NUMBERS);
+        check_sizes(summary, "calls on tables", &outcome);
     }
 }
 
@@ -140,13 +145,9 @@ pub fn check_lengths(summary: &mut Summary, outcome: &Outcome) {
 fn match_members(summary: &mut Summary, seed: u64, count: u64) {
     if asked("calls to a member", count) {
         let outcome = members::compare(seed, count, &Proved);
-        let heading = format!("calls to a member, seed {seed}");
-        add(
-            summary,
-            &heading,
-            &names(&members::KINDS),
-            &outcome,
-            &members::NUMBERS,
-        );
+        let heading = format!("calls to a member, seed {seed}, {}", sizes_met(&outcome));
+        let names = names(&members::KINDS);
+        add(summary, &heading, &names, &outcome, &members::NUMBERS);
+        check_sizes(summary, "calls to a member", &outcome);
     }
 }

@@ -111,12 +111,25 @@ pub fn simulate_by(
     change: Change,
 ) -> impl Fn(&Schedule, &mut [u8], &mut [u8]) -> Result<Counts, u8> + Sync {
     move |schedule, decisions, rounds| {
-        by_reference(schedule, decisions, rounds)?;
-        let run = changed_run(schedule, hear, change);
-        decisions.copy_from_slice(&run.decisions);
-        rounds.copy_from_slice(&run.rounds);
-        Ok(run.counts)
+        answer_by(schedule, decisions, rounds, |schedule| {
+            changed_run(schedule, hear, change)
+        })
     }
+}
+
+/// The answer to a call on tables whose schedule, if it is accepted, is run in a given way.
+pub fn answer_by(
+    schedule: &Schedule,
+    decisions: &mut [u8],
+    rounds: &mut [u8],
+    run: impl Fn(&Schedule) -> Run,
+) -> Result<Counts, u8> {
+    let asked = schedule.ask_tables(decisions.len(), rounds.len());
+    asked.map_err(Refusal::number)?;
+    let run = run(schedule);
+    decisions.copy_from_slice(&run.decisions);
+    rounds.copy_from_slice(&run.rounds);
+    Ok(run.counts)
 }
 
 /// The run of an accepted schedule by a way of hearing, changed at its end.
@@ -529,7 +542,7 @@ fn count_in_text(text: &[u8], processes: usize) -> CrashCount {
 }
 
 /// The number in a field, counted from 0, of a line that is of its form.
-fn number(text: &[u8], k: usize, field: usize) -> usize {
+pub fn number(text: &[u8], k: usize, field: usize) -> usize {
     let mut fields = line(text, k).split(|byte| *byte == b' ');
     let digits = fields.nth(field).unwrap_or_default();
     let append = |number, digit: &u8| 10 * number + usize::from(digit - b'0');

@@ -7,12 +7,12 @@ use lib.Bits.{and-mask}
 use lib.Dec.{eqb}
 use Rattle.sets.specs.Largest.{largest}
 use Rattle.sets.specs.Sets.{names}
-use Rattle.sets.proofs.Bits.{names-nobody}
+use Rattle.sets.proofs.Theorem.{width-facts}
 use Rattle.sets.proofs.is_named.Statement.{statement}
 use Rattle.sets.proofs.is_named.Tie as tie
 
 returns : tie.Need-returns
-returns c = let a = c .before .args in sym (names-nobody largest (a .set) (a .i) (omega arith) (omega arith))
+returns c = let a = c .before .args in sym (width-facts largest .nobody-past (a .set) (a .i) (omega arith) (omega arith))
 
 shr-result : tie.Need-shr-result
 shr-result c = search needs

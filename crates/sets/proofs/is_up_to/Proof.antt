@@ -3,12 +3,13 @@ use mathlib.Core.Path.{sym}
 use native.Mathlib.Omega.{arith}
 use borrow.Author.Needs.{needs}
 use Rattle.sets.specs.Largest.{largest}
-use Rattle.sets.proofs.Bits.{below-power, past-power, narrow}
+use Rattle.sets.proofs.Bits.{below-power, past-power}
+use Rattle.sets.proofs.Theorem.{width-facts}
 use Rattle.sets.proofs.is_up_to.Statement.{statement}
 use Rattle.sets.proofs.is_up_to.Tie as tie
 
 returns : tie.Need-returns
-returns c = let a = c .before .args in sym (narrow largest (a .n) (a .set) (search needs) (omega arith))
+returns c = let a = c .before .args in sym (width-facts largest .up-to (a .n) (a .set) (search needs) (omega arith))
 
 shr-if2 : tie.Need-shr-if2
 shr-if2 c = search needs

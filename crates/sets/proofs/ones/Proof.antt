@@ -1,13 +1,13 @@
 -- `ones` meets its contract: a set has at most as many ones as bits, so that their number fits. Assumes nothing.
 use native.Mathlib.Omega.{arith}
 use borrow.Author.Needs.{needs}
-use lib.Count.{ones-le}
 use Rattle.sets.specs.Largest.{largest}
+use Rattle.sets.proofs.Theorem.{width-facts}
 use Rattle.sets.proofs.ones.Statement.{statement}
 use Rattle.sets.proofs.ones.Tie as tie
 
 cast-result : tie.Need-cast-result
-cast-result c = omega (arith, ones-le largest _ (c .fits .set .fits))
+cast-result c = omega (arith, width-facts largest .few _ (c .fits .set .fits))
 
 returns : tie.Need-returns
 returns c = search needs

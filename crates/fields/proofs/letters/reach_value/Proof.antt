@@ -9,7 +9,7 @@ use lib.Pow.{pow-mono}
 use Rattle.laws.specs.Below.{sum}
 use Rattle.laws.proofs.Below.{sum-start, sum-step, sum-end}
 use Rattle.sets.specs.Largest.{largest}
-use Rattle.sets.proofs.Bits.{bit-moved}
+use Rattle.sets.proofs.Theorem.{width-facts}
 use Rattle.fields.specs.Decimal.{letter}
 use Rattle.fields.proofs.Bits.{letter-at, reach-below}
 use Rattle.fields.proofs.letters.reach_value.Statement.{statement}
@@ -54,7 +54,7 @@ added : (c : tie.After-byte-at Inv-loop μ-loop)
     l .reach + ((c .byte-at .result - letter 0) * 2 ^ l .j) % 2 ^ largest ≡ sum (l .j + 1) (bitAt (c .before .before .before .before .args .text .now))
 added c =
     let l = c .before .before .loop in
-    let moved = bit-moved largest (c .byte-at .result - letter 0) (l .j) (omega (arith, letter-here c)) (omega arith) in
+    let moved = width-facts largest .moved (c .byte-at .result - letter 0) (l .j) (omega (arith, letter-here c)) (omega arith) in
     sum-step (l .j) _ _ _ (l .inv .1) (moved ∙ ap (λ (b : ℕ). (b - letter 0) * 2 ^ l .j) (c .byte-at .ensures))
 
 add-reach : tie.Need-add-reach Inv-loop μ-loop
