@@ -1,7 +1,7 @@
 // The program `bench`: reads one schedule text from standard input and writes its report, or its
 // refusal, to standard output. All that is decided is decided in `output::printed`.
 //
-// The array has one byte more than a text may have, 2,049, so that a text that is too long is noticed:
+// The array has one byte more than a text may have, 8,193, so that a text that is too long is noticed:
 // as many bytes of it are refused as all of it is.
 //
 // A program of this kit cannot choose its exit status. So where the output could not be written it says

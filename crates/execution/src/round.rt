@@ -37,10 +37,10 @@ pub fn open_all(n: usize, t: usize, votes: &[u8], codes: &mut [u8]) -> [Member; 
     let mut members = no_members();
     let mut i: usize = 0;
     while i < size {
-        let turn = opened(size, t, i + 1, byte_at(votes, i));
-        let state = turn.state;
+        let first = opened(size, t, i + 1, byte_at(votes, i));
+        let state = first.state;
         members[i] = state;
-        codes[i] = turn.code;
+        codes[i] = first.code;
         i += 1;
     }
     members

@@ -1,4 +1,4 @@
--- The length of an output: a number of 64 bits has at most 20 digits, so a report has at most 1,578 bytes, and a refusal at most 56 beside its line.
+-- The length of an output: a number of 64 bits has at most 20 digits, so a report has at most 2,986 bytes, and a refusal at most 56 beside its line.
 -- Assumes nothing.
 use mathlib.Core.List.{List}
 use Prim.Native.Nat.{ℕ, _+_, _^_, _≤_, _<_}
