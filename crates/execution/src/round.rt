@@ -89,7 +89,8 @@ pub fn hear_rows(
     while i < size {
         let m = next[i];
         let row = &grid[i][..];
-        let turn = next_turn(round, byte_at(crashes, i), m, codes[i], &row[..size]);
+        let code = codes[i];
+        let turn = next_turn(round, byte_at(crashes, i), m, code, &row[..size]);
         let state = turn.state;
         next[i] = state;
         codes[i] = turn.code;

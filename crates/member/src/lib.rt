@@ -1,9 +1,9 @@
 // One process of FCWFA (document 01, "One member"): what a machine of the cluster runs.
 //
-// `open` gives the state of a new member and `say` the code that it sends in the round to come;
-// `is_stopped` tells whether it has stopped, and `size_question` asks about n and t alone. The state goes
-// in and comes back by value. Each takes anything, and none has a `requires`: `open` and `say` answer what
-// specs/Answers.antt gives, refusals too.
+// `open` gives the state of a new member and `say` the code that it sends in the round to come. `code` is
+// that code of any state, in range or not; `is_stopped` tells whether a state has stopped, and
+// `size_question` asks about n and t alone. The state goes in and comes back by value. Each takes anything,
+// and none has a `requires`: `open` and `say` answer what specs/Answers.antt gives, refusals too.
 //
 // What a row of codes makes of a member is `hear` of the crate `hearing`. Its types stand here, since the
 // definitions in specs/ name them.

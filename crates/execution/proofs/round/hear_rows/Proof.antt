@@ -52,11 +52,11 @@ mul-row c = search needs
 shared-slice-element-row : tie.Need-shared-slice-element-row Inv-loop μ-loop
 shared-slice-element-row c = omega arith
 
+slice-read-code : tie.Need-slice-read-code Inv-loop μ-loop
+slice-read-code c = let long = over-long (c .before .before .before .before .before .loop .inv .3) (omega arith) in omega arith
+
 byte-at-requires : tie.Need-byte-at-requires Inv-loop μ-loop
 byte-at-requires c κs = search needs
-
-slice-read-next-turn : tie.Need-slice-read-next-turn Inv-loop μ-loop
-slice-read-next-turn c = let long = over-long (c .before .before .before .before .before .before .loop .inv .3) (omega arith) in omega arith
 
 slice-aggregate-next-turn : tie.Need-slice-aggregate-next-turn Inv-loop μ-loop
 slice-aggregate-next-turn c = let long = c .before .before .before .row2 .given .0 in sym (length-take-le _ _ (omega arith))
@@ -98,7 +98,7 @@ loop-again c =
     let state =
     turn .0
     ∙ ap₂ (λ (crash : ℕ) (m : Member). stateAfter calls (a .round) crash m (take size (getD (now (a .grid)) (at .i) [])))
-    (c .before .before .before .before .byte-at .ensures) (member-here (c .before .before))
+    (c .before .before .before .byte-at .ensures) (member-here (c .before .before))
     in (
       at .inv .0,
       omega arith,
@@ -132,8 +132,8 @@ hear-rows-spec =
     array-copy-out-m
     mul-row
     shared-slice-element-row
+    slice-read-code
     byte-at-requires
-    slice-read-next-turn
     slice-aggregate-next-turn
     next-turn-requires
     mul-next
