@@ -1,6 +1,6 @@
-// One member's calls: the public `open` of the crate `member` and `hear` of the crate `hearing`, the code that
-// a machine of the cluster runs, with what stands for a refused answer. Nothing else in this crate knows the
-// protocol.
+// One member's calls: the public `open`, `code` and `is_stopped` of the crate `member` and `hear` of the crate
+// `hearing`, the code that a machine of the cluster runs, with what stands for a refused answer. Nothing else in
+// this crate knows the protocol.
 ghost use mathlib.Core.Bool.{true};
 ghost use mathlib.Core.Path.{_≡_};
 ghost use Rattle.sets.specs.Largest.{largest};

@@ -29,7 +29,6 @@ width-facts width = record {
   word = within-width width;
   everybody = λ n small. within-width width n (2 ^ n - 1) small (everybody-up-to n);
   named = λ n i _ l. everybody-named n i l;
-  nobody-past = names-nobody width;
   up-to = narrow width;
   few = ones-le width;
   moved = bit-moved width;

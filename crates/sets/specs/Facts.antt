@@ -31,8 +31,7 @@ pub record WidthFacts (width : ℕ) : Type 0 where
   -- all processes 1 to n, also where n is the width: the set is a word, and it names each of them
   pub everybody : (n : ℕ) → n ≤ width → 2 ^ n - 1 < 2 ^ width
   pub named : (n i : ℕ) → n ≤ width → i < n → names (2 ^ n - 1) i ≡ true
-  -- a word names nobody past its bits, so that it names only processes 1 to n for each n from the width on, and at most as many as it has bits
-  pub nobody-past : (set i : ℕ) → set < 2 ^ width → width ≤ i → names set i ≡ false
+  -- a word names only processes 1 to n for each n from the width on, and at most as many as it has bits
   pub up-to : (n set : ℕ) → set < 2 ^ width → width ≤ n → upTo n set ≡ true
   pub few : (set : ℕ) → set < 2 ^ width → ones set ≤ width
   -- a bit is moved to each of its places without loss

@@ -12,7 +12,7 @@ use Rattle.sets.proofs.is_named.Statement.{statement}
 use Rattle.sets.proofs.is_named.Tie as tie
 
 returns : tie.Need-returns
-returns c = let a = c .before .args in sym (width-facts largest .nobody-past (a .set) (a .i) (omega arith) (omega arith))
+returns c = let a = c .before .args in sym (width-facts largest .sets largest (omega arith) .nobody-past (a .set) (a .i) (omega arith) (omega arith))
 
 shr-result : tie.Need-shr-result
 shr-result c = search needs
