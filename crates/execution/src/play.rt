@@ -34,6 +34,8 @@ fn few_rows() -> [[u8; WIDTH]; FEW] {
 // Rounds 1 to `last`, up to the first in which nothing is sent: after it nothing happens any more. A sender that
 // completes a round and says something adds n - 1 to it, at least 3 in an accepted schedule; so in such a round all
 // that complete it have stopped. The grid, with a row for each process, is lent: it is formed once for a run.
+// The rounds that were played are counted as a length, and a round's number is made a byte of it, so that it is
+// compared with sixteen crash rounds at a time: a byte that is counted up is held and compared as a wide number.
 fn play_on(
     n: usize,
     t: usize,
@@ -51,19 +53,20 @@ fn play_on(
     let mut codes = zero_bytes();
     let mut members = open_all(n, t, votes, &mut codes[..]);
     let mut messages: usize = 0;
-    let mut round: u8 = 0;
-    while (round as usize) < last {
-        let sent = deliver(n, round + 1, &codes, crashes, reaches, &mut grid[..]);
+    let mut played: usize = 0;
+    while played < last {
+        let round = (played + 1) as u8;
+        let sent = deliver(n, round, &codes, crashes, reaches, &mut grid[..]);
         if sent == 0 {
             return Played {
                 members: members,
                 messages: messages,
             };
         }
-        let next = hear_rows(n, round + 1, members, crashes, &grid[..], &mut codes[..]);
+        let next = hear_rows(n, round, members, crashes, &grid[..], &mut codes[..]);
         members = next;
         messages += sent;
-        round += 1;
+        played += 1;
     }
     Played {
         members: members,

@@ -25,18 +25,18 @@ use Rattle.execution.proofs.play.play_on.Statement.{statement}
 use Rattle.execution.proofs.play.play_on.Tie as tie
 
 -- the members stand as in the run, the codes are what they say, and the grid has kept its rows
-record Between (s : Schedule) (last : ℕ) (grid-before grid : List (List ℕ)) (codes : List ℕ) (members : List Member) (messages round : ℕ) : Type 0 where
-  playing : Playing calls s last members messages round
+record Between (s : Schedule) (last : ℕ) (grid-before grid : List (List ℕ)) (codes : List ℕ) (members : List Member) (messages played : ℕ) : Type 0 where
+  playing : Playing calls s last members messages played
   said : codes ≡ padded (fitting (s .n)) (codeSaid calls members)
   rows : length grid ≡ length grid-before
   room : s .n ≤ length grid-before
 
 abbrev Inv-loop : tie.InvT-loop
-Inv-loop n t votes crashes reaches last grid₀ codes₀ members₀ messages₀ round₀ grid codes members messages round =
-    Between (scheduleOf n t votes crashes reaches) last grid₀ grid codes members messages round
+Inv-loop n t votes crashes reaches last grid₀ codes₀ members₀ messages₀ played₀ grid codes members messages played =
+    Between (scheduleOf n t votes crashes reaches) last grid₀ grid codes members messages played
 
 abbrev μ-loop : tie.MeasureT-loop
-μ-loop n t votes crashes reaches last grid₀ codes₀ members₀ messages₀ round₀ grid codes members messages round = last - round
+μ-loop n t votes crashes reaches last grid₀ codes₀ members₀ messages₀ played₀ grid codes members messages played = last - played
 
 -- the codes are as many as the largest cluster has
 codes-long : (n : ℕ) (members : List Member) {codes : List ℕ} → codes ≡ padded (fitting n) (codeSaid calls members) → length codes ≡ largest
@@ -63,19 +63,11 @@ loop-holds c =
       room = c .before .before .before .before .before .before .before .pre .1 .1;
     }
 
-cast-loop : tie.Need-cast-loop Inv-loop μ-loop
-cast-loop c =
-    let a = c .before .before .before .before .before .before .before .before .args in
-    let s = scheduleOf (a .n) (a .t) (now (a .votes)) (now (a .crashes)) (now (a .reaches)) in
-    let ok = question-accepted s largest true (c .before .before .before .before .before .before .before .before .pre .0) in
-    let n-high = ok .n-high in
-    let t-high = ok .rules .t-high in
-    let rounds = c .before .before .before .before .before .before .before .before .pre .1 .0 in
-    let inside = c .loop .inv .playing .inside in
-    omega arith
+add-round : tie.Need-add-round Inv-loop μ-loop
+add-round c = omega arith
 
-add-deliver : tie.Need-add-deliver Inv-loop μ-loop
-add-deliver c =
+cast-round : tie.Need-cast-round Inv-loop μ-loop
+cast-round c =
     let a = c .before .before .before .before .before .before .before .before .before .args in
     let s = scheduleOf (a .n) (a .t) (now (a .votes)) (now (a .crashes)) (now (a .reaches)) in
     let ok = question-accepted s largest true (c .before .before .before .before .before .before .before .before .before .pre .0) in
@@ -106,19 +98,8 @@ returns c =
     let rows = at .inv .rows in
     let room = at .inv .room in
     let delivered = c .before .before .deliver .ensures .0 (omega arith) in
-    let sent = sent-in calls s (ok .n-high) (at .round) (at .codes) (at .inv .playing .states) (at .inv .said) delivered in
+    let sent = sent-in calls s (ok .n-high) (at .played) (at .codes) (at .inv .playing .states) (at .inv .said) delivered in
     ends-silent fcwfa s (ok .n-high) (promises .own-answers) (c .before .before .before .before .before .before .before .before .before .before .before .before .before .before .pre .1 .0) (at .inv .playing) (promises .silence) (omega arith) (sym sent ∙ c .if1 .taken)
-
-add-hear-rows : tie.Need-add-hear-rows Inv-loop μ-loop
-add-hear-rows c =
-    let a = c .before .before .before .before .before .before .before .before .before .before .before .before .before .before .args in
-    let s = scheduleOf (a .n) (a .t) (now (a .votes)) (now (a .crashes)) (now (a .reaches)) in
-    let ok = question-accepted s largest true (c .before .before .before .before .before .before .before .before .before .before .before .before .before .before .pre .0) in
-    let n-high = ok .n-high in
-    let t-high = ok .rules .t-high in
-    let rounds = c .before .before .before .before .before .before .before .before .before .before .before .before .before .before .pre .1 .0 in
-    let inside = c .before .before .before .before .before .before .loop .inv .playing .inside in
-    omega arith
 
 slice-aggregate-hear-rows : tie.Need-slice-aggregate-hear-rows Inv-loop μ-loop
 slice-aggregate-hear-rows c =
@@ -154,16 +135,8 @@ add-messages c =
     let high = delivered .few in
     omega arith
 
-add-round : tie.Need-add-round Inv-loop μ-loop
-add-round c =
-    let a = c .before .before .before .before .before .before .before .before .before .before .before .before .before .before .before .before .before .before .args in
-    let s = scheduleOf (a .n) (a .t) (now (a .votes)) (now (a .crashes)) (now (a .reaches)) in
-    let ok = question-accepted s largest true (c .before .before .before .before .before .before .before .before .before .before .before .before .before .before .before .before .before .before .pre .0) in
-    let n-high = ok .n-high in
-    let t-high = ok .rules .t-high in
-    let rounds = c .before .before .before .before .before .before .before .before .before .before .before .before .before .before .before .before .before .before .pre .1 .0 in
-    let inside = c .before .before .before .before .before .before .before .before .before .before .loop .inv .playing .inside in
-    omega arith
+add-played : tie.Need-add-played Inv-loop μ-loop
+add-played c = omega arith
 
 loop-less : tie.Need-loop-less Inv-loop μ-loop
 loop-less c = omega arith
@@ -179,7 +152,7 @@ loop-again c =
     let delivered = c .before .before .before .before .before .before .deliver .ensures .0 (omega arith) in
     let hears = c .before .hear-rows .ensures in
     record {
-      playing = goes-on calls s (ok .n-high) (at .round) (at .codes) (at .inv .playing .states) (at .inv .said) delivered (at .inv .playing) (omega arith) (hears .0);
+      playing = goes-on calls s (ok .n-high) (at .played) (at .codes) (at .inv .playing .states) (at .inv .said) delivered (at .inv .playing) (omega arith) (hears .0);
       said = said-again (fitting (a .n)) (codeSaid calls (at .members)) (at .inv .said) (hears .1);
       rows = over-long (delivered .rows) (omega arith) ∙ rows;
       room = room;
@@ -206,16 +179,15 @@ play-on-spec =
     slice-aggregate-open-all
     open-all-requires
     loop-holds
-    cast-loop
-    add-deliver
+    add-round
+    cast-round
     deliver-requires
     same-length
     returns
-    add-hear-rows
     slice-aggregate-hear-rows
     hear-rows-requires
     add-messages
-    add-round
+    add-played
     loop-less
     loop-again
     same-length-2
