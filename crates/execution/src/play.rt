@@ -34,8 +34,8 @@ fn few_rows() -> [[u8; WIDTH]; FEW] {
 // Rounds 1 to `last`, up to the first in which nothing is sent: after it nothing happens any more. A sender that
 // completes a round and says something adds n - 1 to it, at least 3 in an accepted schedule; so in such a round all
 // that complete it have stopped. The grid, with a row for each process, is lent: it is formed once for a run.
-// The rounds that were played are counted as a length, and a round's number is made a byte of it, so that it is
-// compared with sixteen crash rounds at a time: a byte that is counted up is held and compared as a wide number.
+// The rounds played are counted as a length, and each round's number is made a byte from that count, so that it is
+// compared with sixteen crash rounds at a time: a byte that is itself counted up is compiled to a wide number.
 fn play_on(
     n: usize,
     t: usize,
