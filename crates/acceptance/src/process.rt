@@ -5,18 +5,14 @@ ghost use Prim.Native.Nat.{_+_};
 ghost use lib.Dec.{leb};
 ghost use Rattle.schedule.specs.Questions.{reachRight, entryQuestion};
 use sets::Set;
-use sets::is_named;
-use sets::is_up_to;
+use sets::is_of_others;
 
 // Whether a reach names only processes 1 to n, never its own process, and nobody where the crash
 // round is 0.
 fn is_reach_right(n: usize, i: usize, crash: u8, reach: Set) -> bool
     ensures tested { λ r. ⌜ r ≡ reachRight n i crash reach ⌝ }
 {
-    if !is_up_to(reach, n) {
-        return false;
-    }
-    if is_named(reach, i) {
+    if !is_of_others(reach, n, i) {
         return false;
     }
     if crash != 0 {

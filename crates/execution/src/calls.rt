@@ -28,6 +28,7 @@ pub fn no_member() -> Member
         round: 0,
         estimate: 0,
         decided: 0,
+        silent: 0,
     }
 }
 

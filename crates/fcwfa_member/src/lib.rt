@@ -1,6 +1,7 @@
 // The member for programs in C and Rust: `open`, `say` and `hear` on numbers and bytes.
 //
-// A state is six bytes: n, t, own number, the round to play next, the estimate, the decided round. Each
+// A state is fourteen bytes: n, t, own number, the round to play next, the estimate and the decided round, a
+// byte each, and the silent set as eight bytes, the lowest first. Each
 // function answers 0, or the number of the first question whose answer is no; then what it was lent
 // is as before. Each takes any numbers and bytes. A caller owes this alone: no pointer is NULL, also
 // where its length is 0, each is good for the number of entries that is said or given with it, and what
@@ -21,7 +22,7 @@ use member::Said;
 
 // `state` becomes that of a new member.
 #[no_mangle]
-pub extern "C" fn fcwfa_open(n: usize, t: usize, id: usize, vote: u8, state: &mut [u8; 6]) -> u8
+pub extern "C" fn fcwfa_open(n: usize, t: usize, id: usize, vote: u8, state: &mut [u8; 14]) -> u8
     ensures number { λ r. ⌜ r ≡ openQuestion largest n t id vote ⌝ }
     ensures state_after { λ r. ⌜ now (state .exit) ≡ placeAfter (openQuestion largest n t id vote) (stateBytes (opening n t id vote)) (now (state .entry)) ⌝ }
 {
@@ -37,7 +38,7 @@ pub extern "C" fn fcwfa_open(n: usize, t: usize, id: usize, vote: u8, state: &mu
 
 // `code` becomes what the member says in the round to come.
 #[no_mangle]
-pub extern "C" fn fcwfa_say(state: &[u8; 6], code: &mut u8) -> u8
+pub extern "C" fn fcwfa_say(state: &[u8; 14], code: &mut u8) -> u8
     ensures number { λ r. ⌜ r ≡ sayQuestion largest (stateIn (now (state .entry))) ⌝ }
     ensures code_after { λ r. ⌜ now (code .exit) ≡ placeAfter (sayQuestion largest (stateIn (now (state .entry)))) (says (stateIn (now (state .entry)))) (now (code .entry)) ⌝ }
 {
@@ -53,7 +54,7 @@ pub extern "C" fn fcwfa_say(state: &[u8; 6], code: &mut u8) -> u8
 
 // `state` becomes that after the row.
 #[no_mangle]
-pub extern "C" fn fcwfa_hear(state: &mut [u8; 6], row: &[u8]) -> u8
+pub extern "C" fn fcwfa_hear(state: &mut [u8; 14], row: &[u8]) -> u8
     ensures number { λ r. ⌜ r ≡ hearQuestion largest (stateIn (now (state .entry))) (now (row .entry)) ⌝ }
     ensures state_after { λ r. ⌜ now (state .exit) ≡ placeAfter (hearQuestion largest (stateIn (now (state .entry))) (now (row .entry))) (stateBytes (hears (stateIn (now (state .entry))) (now (row .entry)))) (now (state .entry)) ⌝ }
 {

@@ -1,20 +1,22 @@
 -- What a saying tells of the state; and what hearing answers once the questions about the state are passed: it goes by those about the row.
 -- Assumes nothing.
-use mathlib.Core.Path.{_≡_, sym, _∙_, ap}
+use mathlib.Core.Path.{_≡_, sym, _∙_, ap, ap₂}
 use mathlib.Core.Logic.{inl, inr, _≢_}
 use mathlib.Core.List.{List}
 use mathlib.Core.Bool.{true, false}
 use Prim.Native.Nat.{ℕ, _-_}
-use borrow.Author.Tests.{eq-eqb}
+use native.Mathlib.Omega.{arith}
+use borrow.Author.Tests.{eqb-true, eq-eqb}
+use lib.Dec.{eqb}
 use lib.ListN.{length, getD}
 use Rattle.laws.specs.Answer.{ask, accepted, refused, answer}
 use Rattle.laws.proofs.Test.{true-or-false}
-use Rattle.laws.proofs.Answer.{answer-accepted, answer-refused, valueOr, not-accepted}
+use Rattle.laws.proofs.Answer.{passed, answer-accepted, answer-refused, valueOr, not-accepted}
 use Rattle.member.specs.declared.Member.{Member}
 use Rattle.member.specs.declared.Tally.{Tally}
 use Rattle.member.specs.State.{inRange, stopped}
 use Rattle.member.specs.Saying.{says}
-use Rattle.member.specs.Hearing.{tallyOf, becomes, hears}
+use Rattle.member.specs.Hearing.{tallyOf, becomes, silentAfter, withSilent, hears}
 use Rattle.member.specs.Questions.{sayQuestion, rowQuestion, hearQuestion}
 use Rattle.member.specs.Answers.{sayAnswer, hearAnswer}
 
@@ -32,6 +34,11 @@ module _ (limit : ℕ) (m : Member) {x : ℕ} where
   unfolding sayAnswer sayQuestion ask answer
   say-code e = sym (ap (valueOr x) (rw (say-in-range e) at e))
 
+-- a row that passes the questions about it holds nothing but codes
+pub all-codes : (m : Member) (own q : ℕ) (k : Tally) → q ≡ rowQuestion m own k → q ≡ 0 → k .others ≡ 0
+unfolding rowQuestion
+all-codes m own q k asked h = eqb-true (k .others) 0 (passed (eqb (k .others) 0) 14 _ (omega arith) (sym asked ∙ h) .0)
+
 module _ (limit : ℕ) (m : Member) (row : List ℕ) (r : inRange limit m ≡ true) (s : stopped m ≡ false) (l : length row ≡ m .n) where
   asks-row : hearQuestion limit m row ≡ rowQuestion m (getD row (m .id - 1) 0) (tallyOf row)
   unfolding hearQuestion ask
@@ -45,6 +52,8 @@ module _ (limit : ℕ) (m : Member) (row : List ℕ) (r : inRange limit m ≡ tr
     unfolding hearAnswer
     row-refused h = rw question-is (sym (answer-refused q (hears m row) m h))
 
-    pub row-accepted : q ≡ 0 → (x : Member) → x ≡ becomes m k → accepted x ≡ hearAnswer limit m row
+    pub row-accepted : q ≡ 0 → (next : Member) (set : ℕ) → next ≡ becomes m k → set ≡ silentAfter m row → (x : Member) → x ≡ withSilent next set
+        → accepted x ≡ hearAnswer limit m row
     unfolding hearAnswer
-    row-accepted h x e = rw question-is (ap accepted (e ∙ ap (becomes m) counted) ∙ sym (answer-accepted q (hears m row) m h))
+    row-accepted h next set e f x g =
+        rw question-is (ap accepted (g ∙ ap₂ withSilent (e ∙ ap (becomes m) counted) f) ∙ sym (answer-accepted q (hears m row) m h))

@@ -1,3 +1,4 @@
 pub mod Counted
+pub mod Silence
 pub mod Deciding
 pub mod Asked

@@ -4,6 +4,7 @@
 // `member` give, refusals too; it has no `requires`.
 mod codes;
 mod rules;
+mod silent;
 
 ghost use mathlib.Core.Path.{_≡_};
 ghost use Rattle.sets.specs.Largest.{largest};
@@ -34,5 +35,7 @@ pub fn hear(m: Member, row: &[u8]) -> Heard
     if question != 0 {
         return Heard::Refused(question, m);
     }
-    Heard::Moved(rules::next(m, counts))
+    let set = silent::silent_after(m, row, counts);
+    let next = rules::next(m, counts);
+    Heard::Moved(silent::with_silent(next, set))
 }

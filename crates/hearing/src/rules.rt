@@ -65,6 +65,7 @@ fn moved(m: Member, estimate: u8, decided: u8) -> Member
         round: m.round + 1,
         estimate: estimate,
         decided: decided,
+        silent: m.silent,
     }
 }
 

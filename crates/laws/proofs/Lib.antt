@@ -3,6 +3,7 @@ pub mod Below
 pub mod Counting
 pub mod Least
 pub mod Sums
+pub mod Numerals
 pub mod Lists
 pub mod Folds
 pub mod Answer

@@ -1,5 +1,7 @@
 pub mod Sizes
 pub mod Range
+pub mod Codes
 pub mod Counts
+pub mod Silent
 pub mod Promises
 pub mod Vectors

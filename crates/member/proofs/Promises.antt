@@ -3,24 +3,31 @@
 use mathlib.Core.Path.{_≡_, refl, _∙_, ap}
 use mathlib.Core.Logic.{_⊎_, inl, inr, _≢_}
 use mathlib.Core.List.{List}
-use mathlib.Core.Bool.{Bool, true, false, cond, not, _||_, false≢true}
-use Prim.Native.Nat.{ℕ, _+_, _≤_, zero-le}
+use mathlib.Core.Bool.{Bool, true, false, cond, not, _&&_, _||_, false≢true}
+use Prim.Native.Nat.{ℕ, _+_, _-_, _^_, _≤_, _<_, zero-le}
 use native.Mathlib.Omega.{arith}
 use borrow.Author.Tests.{eqb-true, eqb-false, eq-eqb, ne-eqb, not-true}
-use lib.Dec.{eqb, ltb}
-use lib.ListN.{length}
+use lib.Count.{ones}
+use lib.Dec.{eqb, ltb, leb}
+use lib.ListN.{length, getD}
+use lib.Pow.{pow-pos}
 use Rattle.laws.proofs.Test.{true-or-false}
 use Rattle.laws.proofs.Answer.{passed, answer-accepted, answer-refused}
+use Rattle.sets.specs.Sets.{names}
+use Rattle.sets.proofs.Bits.{names-nobody}
 use Rattle.member.specs.declared.Member.{Member}
 use Rattle.member.specs.declared.Tally.{Tally}
 use Rattle.member.specs.declared.Rule.{Rule}
 use Rattle.member.specs.declared.Rule.the-variants.{Told, ZerosOnly, Quiet, RoundT, LastRound, NoRule}
 use Rattle.member.specs.Opening.{opening}
 use Rattle.member.specs.State.{inRange, stopped}
-use Rattle.member.specs.Hearing.{tallyOf, estimates, told, zerosOnly, quiet, enough, ruleMet, moved, firstEstimate, lowered, toldValue, byRule, becomes, hears}
-use Rattle.member.specs.Questions.{hearQuestion}
+use Rattle.member.specs.Saying.{says}
+use Rattle.member.specs.Hearing.{tallyOf, isEstimate, estimates, told, zerosOnly, quiet, enough, ruleMet, moved, firstEstimate, lowered, toldValue, byRule, becomes, setsSilent, withSilent, hears}
+use Rattle.member.specs.Questions.{rowQuestion, hearQuestion}
 use Rattle.member.specs.Answers.{hearAnswer}
 use Rattle.member.specs.Promises.{OpeningPromises, HearingPromises}
+use Rattle.member.proofs.Codes.{is-estimate}
+use Rattle.member.proofs.Silent.{silent-below, silent-names, silent-ones, sets, silent-is, silent-left}
 use Rattle.member.proofs.Range.{Limits, Place, waiting, settled, Ranged, ranged, Running, running, open-limits, in-range-ranged, ranged-in-range}
 
 -- One round on, undecided or decided in the round played.
@@ -124,6 +131,11 @@ decided-place m (settled a b r s t) run d =
     let done : m .round ≢ m .decided + 2 = run .not-done d in
     settled a b (omega arith) (omega arith) (omega arith)
 
+-- and with any silent set
+with-silent : (m : Member) (set : ℕ) → Place m → Place (withSilent m set)
+with-silent m set (waiting u lo hi) = waiting u lo hi
+with-silent m set (settled a b r s t) = settled a b r s t
+
 -- the same limits with another estimate
 same-limits : {limit n t id value : ℕ} (e : ℕ) → e ≤ 1 → Limits limit n t id value → Limits limit n t id e
 same-limits e h l = record { n-low = l .n-low; n-high = l .n-high; t-low = l .t-low; t-high = l .t-high; id-low = l .id-low; id-high = l .id-high; value-high = h }
@@ -133,19 +145,57 @@ pub record Accepts (limit : ℕ) (m : Member) (row : List ℕ) : Type 0 where
   pub range : Ranged limit m
   pub runs : Running m
   pub long : length row ≡ m .n
+  pub own : getD row (m .id - 1) 0 ≡ says m
 
 module _ (limit : ℕ) (m : Member) (row : List ℕ) where
   pub accepts : hearQuestion limit m row ≡ 0 → Accepts limit m row
-  unfolding hearQuestion
+  unfolding hearQuestion rowQuestion
   accepts e =
       let p1 = passed (inRange limit m) 11 _ (omega arith) e in
       let p2 = passed (not (stopped m)) 12 _ (omega arith) (p1 .1) in
       let p3 = passed (eqb (length row) (m .n)) 13 _ (omega arith) (p2 .1) in
+      let p4 = passed _ 14 _ (omega arith) (p3 .1) in
+      let p5 = passed _ 15 _ (omega arith) (p4 .1) in
       record {
         range = in-range-ranged limit m (p1 .0);
         runs = running m (not-true (stopped m) (p2 .0));
         long = eqb-true (length row) (m .n) (p3 .0);
+        own = eqb-true (getD row (m .id - 1) 0) (says m) (p5 .0);
       }
+
+  -- an undecided member that runs says an estimate
+  own-estimate : Accepts limit m row → m .decided ≡ 0 → isEstimate (getD row (m .id - 1) 0) ≡ true
+  unfolding says
+  own-estimate a u =
+      let value = a .range .bounds .value-high in
+      rw (a .own, a .runs .goes-on, eq-eqb (m .decided) 0 u) (is-estimate (1 + m .estimate) (omega arith) (omega arith))
+
+  -- the set after an accepted row names no process above n, and not the own one
+  module _ (a : Accepts limit m row) where
+    silent-below-n : hears m row .silent < 2 ^ m .n
+    silent-below-n =
+        elim (true-or-false (setsSilent m (tallyOf row))) [
+          | inl e ↦ rw (silent-is m row e, ← a .long) (silent-below row)
+          | inr e ↦ rw (silent-left m row e) (a .range .others .below)
+        ]
+
+    silent-not-own : names (hears m row .silent) (m .id - 1) ≡ false
+    silent-not-own =
+        let low = a .range .bounds .id-low in
+        let high = a .range .bounds .id-high in
+        let long = a .long in
+        elim (true-or-false (setsSilent m (tallyOf row))) [
+          | inl e ↦ rw (silent-is m row e) (silent-names row (m .id - 1) (omega arith) ∙ ap not (own-estimate a (sets m (tallyOf row) e .undecided-before)))
+          | inr e ↦ rw (silent-left m row e) (a .range .others .not-own)
+        ]
+
+    silent-ones-are : setsSilent m (tallyOf row) ≡ true → ones (hears m row .silent) ≡ m .n - estimates (tallyOf row)
+    silent-ones-are e = ap ones (silent-is m row e) ∙ silent-ones row ∙ ap (λ (n : ℕ). n - estimates (tallyOf row)) (a .long)
+
+    by-silent : setsSilent m (tallyOf row) ≡ true
+        → quiet (m .n) (m .t) (m .round) (tallyOf row) ≡ leb (m .round) (m .t - 1) && leb (ones (hears m row .silent)) (m .round - 2)
+    unfolding quiet
+    by-silent e = rw (silent-ones-are e)
 
   kept-range : hearQuestion limit m row ≡ 0 → inRange limit (hears m row) ≡ true
   kept-range q = ranged-in-range limit (hears m row) (go (true-or-false (eqb (m .decided) 0)))
@@ -160,13 +210,14 @@ module _ (limit : ℕ) (m : Member) (row : List ℕ) where
           let last : m .round ≡ m .t + 1 → s .decided ≢ 0 = λ e w. decides-last m (tallyOf row) (λ t0. omega (arith, a .range .bounds .t-low)) e (ap (λ x. x .decided) (s .is) ∙ w) in
           rw (s .is)
           (ranged limit _ (same-limits (s .estimate) (s .bit (a .range .bounds .value-high)) (a .range .bounds))
-          (undecided-place m (s .estimate) (s .decided) (a .range .place) z (s .when) last))
+          (with-silent _ _ (undecided-place m (s .estimate) (s .decided) (a .range .place) z (s .when) last)) (record { below = silent-below-n a; not-own = silent-not-own a }))
       go (inr u) =
           let d = eqb-false (m .decided) 0 u in
-          rw (becomes-decided m (tallyOf row) d) (ranged limit _ (a .range .bounds) (decided-place m (a .range .place) (a .runs) d))
+          rw (becomes-decided m (tallyOf row) d)
+          (ranged limit _ (a .range .bounds) (with-silent _ _ (decided-place m (a .range .place) (a .runs) d)) (record { below = silent-below-n a; not-own = silent-not-own a }))
 
   -- n, t, own number and round, whatever is heard
-  kept : (f : Member → ℕ) → ((e d : ℕ) → f (moved m e d) ≡ f (moved m 0 0)) → f (hears m row) ≡ f (moved m 0 0)
+  kept : (f : Member → ℕ) → ((e d : ℕ) → f (moved m e d) ≡ f (moved m 0 0)) → f (becomes m (tallyOf row)) ≡ f (moved m 0 0)
   kept f h = elim (true-or-false (eqb (m .decided) 0)) [
     | inl u ↦ let s = undecided-step m (tallyOf row) (eqb-true (m .decided) 0 u) in ap f (s .is) ∙ h (s .estimate) (s .decided)
     | inr u ↦ ap f (becomes-decided m (tallyOf row) (eqb-false (m .decided) 0 u)) ∙ h (m .estimate) (m .decided)
@@ -185,9 +236,13 @@ module _ (limit : ℕ) (m : Member) (row : List ℕ) where
     decided-last = λ q e. decides-last m (tallyOf row) (λ t0. omega (arith, accepts q .range .bounds .t-low)) e;
     estimate-kept = λ d. ap (λ x. x .estimate) (becomes-decided m (tallyOf row) d);
     decided-kept = λ d. ap (λ x. x .decided) (becomes-decided m (tallyOf row) d);
+    silent-named = λ q e j l. let a = accepts q in let long = a .long in ap (λ (set : ℕ). names set j) (silent-is m row e) ∙ silent-names row j (omega arith);
+    silent-count = λ q e. silent-ones-are (accepts q) e;
+    silent-quiet = λ q e. by-silent (accepts q) e;
+    silent-kept = silent-left m row;
   }
 
 pub opening-promises : (limit n t id vote : ℕ) → OpeningPromises limit n t id vote
 opening-promises limit n t id vote = record {
-  in-range = λ q. ranged-in-range limit (opening n t id vote) (ranged limit _ (open-limits limit n t id vote q) (waiting refl (omega arith) (omega arith)));
+  in-range = λ q. ranged-in-range limit (opening n t id vote) (ranged limit _ (open-limits limit n t id vote q) (waiting refl (omega arith) (omega arith)) (record { below = pow-pos n; not-own = names-nobody 0 0 (id - 1) (omega arith) zero-le }));
 }

@@ -2,7 +2,7 @@
 use mathlib.Core.Path.{_≡_}
 use mathlib.Core.Logic.{inl, inr, _≢_}
 use mathlib.Core.Bool.{Bool, true, false, not, _&&_}
-use Prim.Native.Nat.{ℕ, _+_, _-_, _≤_, _<_}
+use Prim.Native.Nat.{ℕ, _+_, _-_, _^_, _≤_, _<_}
 use native.Mathlib.Omega.{arith}
 use borrow.Author.Tests.{eqb-true, eqb-false, eq-eqb, ne-eqb, leb-true, le-leb}
 use lib.Dec.{leb, eqb}
@@ -10,9 +10,11 @@ use Rattle.laws.specs.Test.{within}
 use Rattle.laws.specs.Answer.{ask}
 use Rattle.laws.proofs.Test.{true-or-false, and-left, and-right, or-false, within-low, within-high, within-is}
 use Rattle.laws.proofs.Answer.{passed}
+use Rattle.sets.specs.Sets.{names}
+use Rattle.sets.proofs.Bits.{of-others-below, of-others-not, of-others}
 use Rattle.member.specs.declared.Member.{Member}
 use Rattle.member.specs.Opening.{openQuestion}
-use Rattle.member.specs.State.{undecided, inLimits, placed, inRange, stopped}
+use Rattle.member.specs.State.{undecided, inLimits, placed, silentOthers, inRange, stopped}
 use Rattle.member.specs.Saying.{says}
 
 -- n, t, own number and estimate (or vote) are within their limits.
@@ -101,28 +103,48 @@ module _ (m : Member) where
         le-leb (m .round) (m .t + 2) r3,
       )
 
+-- The silent set of a member in range: no process above n, and not the own one.
+pub record Others (m : Member) : Type 0 where
+  pub below : m .silent < 2 ^ m .n
+  pub not-own : names (m .silent) (m .id - 1) ≡ false
+
+module _ (m : Member) where
+  pub silent-others : silentOthers m ≡ true → Others m
+  unfolding silentOthers
+  silent-others e = record { below = of-others-below (m .n) (m .id - 1) (m .silent) e; not-own = of-others-not (m .n) (m .id - 1) (m .silent) e }
+
+  pub others-silent : Others m → silentOthers m ≡ true
+  unfolding silentOthers
+  others-silent o = of-others (m .n) (m .id - 1) (m .silent) (o .below) (o .not-own)
+
 -- In range, whole.
 pub record Ranged (limit : ℕ) (m : Member) : Type 0 where
   pub bounds : Limits limit (m .n) (m .t) (m .id) (m .estimate)
   pub place : Place m
+  pub others : Others m
   pub round-low : 1 ≤ m .round
   pub round-high : m .round ≤ m .t + 2
   pub decided-high : m .decided ≤ m .t + 1
 
 module _ (limit : ℕ) (m : Member) where
-  pub ranged : Limits limit (m .n) (m .t) (m .id) (m .estimate) → Place m → Ranged limit m
-  ranged l (waiting u a b) = record { bounds = l; place = waiting u a b; round-low = a; round-high = omega arith; decided-high = omega arith }
-  ranged l (settled a b c d e) = record { bounds = l; place = settled a b c d e; round-low = omega arith; round-high = e; decided-high = b }
+  pub limits-of : inLimits limit m ≡ true → Limits limit (m .n) (m .t) (m .id) (m .estimate)
+  unfolding inLimits
+  limits-of e = open-limits limit (m .n) (m .t) (m .id) (m .estimate) (eqb-true _ 0 e)
+
+  pub ranged : Limits limit (m .n) (m .t) (m .id) (m .estimate) → Place m → Others m → Ranged limit m
+  ranged l (waiting u a b) o = record { bounds = l; place = waiting u a b; others = o; round-low = a; round-high = omega arith; decided-high = omega arith }
+  ranged l (settled a b c d e) o = record { bounds = l; place = settled a b c d e; others = o; round-low = omega arith; round-high = e; decided-high = b }
 
   pub in-range-ranged : inRange limit m ≡ true → Ranged limit m
-  unfolding inRange inLimits
+  unfolding inRange
   in-range-ranged e =
-      let l = and-left (inLimits limit m) (placed m) e in
-      ranged (open-limits limit (m .n) (m .t) (m .id) (m .estimate) (eqb-true _ 0 l)) (placed-place m (and-right (inLimits limit m) (placed m) e))
+      let l = and-left (inLimits limit m) _ e in
+      let p = and-right (inLimits limit m) _ e in
+      ranged (limits-of l) (placed-place m (and-left (placed m) (silentOthers m) p)) (silent-others m (and-right (placed m) (silentOthers m) p))
 
   pub ranged-in-range : Ranged limit m → inRange limit m ≡ true
   unfolding inRange inLimits
-  ranged-in-range r = rw (limits-open limit (m .n) (m .t) (m .id) (m .estimate) (r .bounds), place-placed m (r .place))
+  ranged-in-range r = rw (limits-open limit (m .n) (m .t) (m .id) (m .estimate) (r .bounds), place-placed m (r .place), others-silent m (r .others))
 
   -- what it says is one of the codes
   pub code-low : inRange limit m ≡ true → says m ≤ 4
@@ -141,6 +163,7 @@ stopped-last m r d = rw (ne-eqb (m .round) (m .t + 2) r, ne-eqb (m .decided) 0 d
 
 -- a member that has not stopped
 pub record Running (m : Member) : Type 0 where
+  pub goes-on : stopped m ≡ false
   pub not-over : m .round ≢ m .t + 2
   pub not-done : m .decided ≢ 0 → m .round ≢ m .decided + 2
 
@@ -149,6 +172,7 @@ unfolding stopped
 running m e =
     let h = or-false (eqb (m .round) (m .t + 2)) (not (eqb (m .decided) 0) && eqb (m .round) (m .decided + 2)) e in
     record {
+      goes-on = e;
       not-over = eqb-false (m .round) (m .t + 2) (h .0);
       not-done = λ d. eqb-false (m .round) (m .decided + 2) (rw (ne-eqb (m .decided) 0 d) at (h .1));
     }

@@ -1,10 +1,11 @@
--- What hearing a row does: first which rule is met, then what the state becomes.
+-- What hearing a row does: first which rule is met, then what the state becomes, and who was silent.
 use Prim.Native.Nat.{ℕ, _+_, _-_}
 use mathlib.Core.List.{List}
-use mathlib.Core.Bool.{Bool, cond, _&&_, _||_}
+use mathlib.Core.Bool.{Bool, cond, _&&_, _||_, not}
 use lib.ListN.{length, getD}
 use lib.Dec.{ltb, leb, eqb}
-use Rattle.laws.specs.Below.{count}
+use Rattle.laws.specs.Below.{bit, count}
+use Rattle.sets.specs.Sets.{setOf}
 use Rattle.member.specs.declared.Member.{Member}
 use Rattle.member.specs.declared.Tally.{Tally}
 use Rattle.member.specs.declared.Rule.{Rule}
@@ -27,6 +28,10 @@ tallyOf row = record {
   commits = codes (λ c. eqb c (decidedCode 1)) row;
   others = codes (λ c. ltb 4 c) row;
 }
+
+-- whether a code is an estimate
+abbrev pub isEstimate : ℕ → Bool
+isEstimate c = eqb c (estimateCode 0) || eqb c (estimateCode 1)
 
 -- how many estimates were heard
 abbrev pub estimates : Tally → ℕ
@@ -72,7 +77,7 @@ ruleMet n t r k =
 
 -- "the round always grows by 1"; with this estimate and this decided round
 abbrev pub moved : Member → ℕ → ℕ → Member
-moved m estimate decided = record { n = m .n; t = m .t; id = m .id; round = m .round + 1; estimate = estimate; decided = decided }
+moved m estimate decided = record { n = m .n; t = m .t; id = m .id; round = m .round + 1; estimate = estimate; decided = decided; silent = m .silent }
 
 -- "r = 1: fewer than n estimates, or any estimate 0, makes its estimate 0"
 unfoldable pub firstEstimate : ℕ → ℕ → Tally → ℕ
@@ -104,5 +109,23 @@ becomes m k =
     (byRule (ruleMet (m .n) (m .t) (m .round) k) m k))
     (moved m (m .estimate) (m .decided))
 
+-- Who was silent.
+
+-- "A row heard while undecided from round 2 on, without a decided message": whether a row with these counts sets the silent set
+unfoldable pub setsSilent : Member → Tally → Bool
+setsSilent m k = undecided m && (leb 2 (m .round) && not (told k))
+
+-- "the processes that sent no estimate", as a set
+abbrev pub silentIn : List ℕ → ℕ
+silentIn row = setOf (length row) (λ j. bit (not (isEstimate (getD row j 0))))
+
+-- such a row "makes it the processes that sent no estimate. Every other row leaves it."
+unfoldable pub silentAfter : Member → List ℕ → ℕ
+silentAfter m row = cond (setsSilent m (tallyOf row)) (silentIn row) (m .silent)
+
+-- a state with another silent set
+abbrev pub withSilent : Member → ℕ → Member
+withSilent m set = record { n = m .n; t = m .t; id = m .id; round = m .round; estimate = m .estimate; decided = m .decided; silent = set }
+
 abbrev pub hears : Member → List ℕ → Member
-hears m row = becomes m (tallyOf row)
+hears m row = withSilent (becomes m (tallyOf row)) (silentAfter m row)

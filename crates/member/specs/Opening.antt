@@ -5,9 +5,9 @@ use Rattle.laws.specs.Test.{within}
 use Rattle.laws.specs.Answer.{ask}
 use Rattle.member.specs.declared.Member.{Member}
 
--- "Opening: round 1, estimate = vote, undecided."
+-- "Opening: round 1, estimate = vote, undecided.", and the silent set "is empty at opening"
 abbrev pub opening : ℕ → ℕ → ℕ → ℕ → Member
-opening n t id vote = record { n = n; t = t; id = id; round = 1; estimate = vote; decided = 0 }
+opening n t id vote = record { n = n; t = t; id = id; round = 1; estimate = vote; decided = 0; silent = 0 }
 
 -- "n from 4 to 32? 1. t from 3 to n − 1? 2.", with the limit for 32, and the questions after them
 abbrev pub sizeQuestions : ℕ → ℕ → ℕ → ℕ → ℕ

@@ -1,14 +1,18 @@
 -- What holds of every member, whatever it is given: consequences of the definitions that the contracts cite, proved in proofs/Promises.antt.
-use Prim.Native.Nat.{ℕ, _+_}
+use Prim.Native.Nat.{ℕ, _+_, _-_, _<_}
 use mathlib.Core.Path.{_≡_}
 use mathlib.Core.Logic.{_≢_}
 use mathlib.Core.List.{List}
-use mathlib.Core.Bool.{true}
+use mathlib.Core.Bool.{true, false, not, _&&_}
+use lib.Count.{ones}
+use lib.Dec.{leb}
+use lib.ListN.{getD}
 use Rattle.laws.specs.Answer.{accepted, refused}
+use Rattle.sets.specs.Sets.{names}
 use Rattle.member.specs.declared.Member.{Member}
 use Rattle.member.specs.Opening.{opening, openQuestion}
 use Rattle.member.specs.State.{inRange}
-use Rattle.member.specs.Hearing.{hears}
+use Rattle.member.specs.Hearing.{tallyOf, isEstimate, estimates, quiet, setsSilent, hears}
 use Rattle.member.specs.Questions.{hearQuestion}
 use Rattle.member.specs.Answers.{hearAnswer}
 
@@ -35,3 +39,12 @@ pub record HearingPromises (limit : ℕ) (m : Member) (row : List ℕ) : Type 0 
   -- the estimate of a decided member never changes, nor does its decided round
   pub estimate-kept : m .decided ≢ 0 → hears m row .estimate ≡ m .estimate
   pub decided-kept : m .decided ≢ 0 → hears m row .decided ≡ m .decided
+  -- an accepted row that sets the silent set makes it name just those of processes 1 to n that sent no estimate: as many as estimates are missing, so the
+  -- quiet rule is "r ≤ t − 1 and the set has at most r − 2 members"
+  pub silent-named : hearQuestion limit m row ≡ 0 → setsSilent m (tallyOf row) ≡ true
+      → (j : ℕ) → j < m .n → names (hears m row .silent) j ≡ not (isEstimate (getD row j 0))
+  pub silent-count : hearQuestion limit m row ≡ 0 → setsSilent m (tallyOf row) ≡ true → ones (hears m row .silent) ≡ m .n - estimates (tallyOf row)
+  pub silent-quiet : hearQuestion limit m row ≡ 0 → setsSilent m (tallyOf row) ≡ true
+      → quiet (m .n) (m .t) (m .round) (tallyOf row) ≡ leb (m .round) (m .t - 1) && leb (ones (hears m row .silent)) (m .round - 2)
+  -- and a row that does not set it leaves it as it was
+  pub silent-kept : setsSilent m (tallyOf row) ≡ false → hears m row .silent ≡ m .silent

@@ -1,9 +1,10 @@
 -- The state of a member: in range, and stopped.
-use Prim.Native.Nat.{ℕ, _+_}
+use Prim.Native.Nat.{ℕ, _+_, _-_}
 use mathlib.Core.Bool.{Bool, cond, _&&_, _||_, not}
 use lib.Dec.{leb, eqb}
 use Rattle.laws.specs.Test.{within}
 use Rattle.member.specs.declared.Member.{Member}
+use Rattle.sets.specs.Sets.{namesOthers}
 use Rattle.member.specs.Opening.{openQuestion}
 
 -- "the decided round (0 while undecided)"
@@ -20,9 +21,13 @@ placed m =
     cond (undecided m) (within 1 (m .round) (m .t + 1))
     (within 2 (m .decided) (m .t + 1) && (within (m .decided + 1) (m .round) (m .decided + 2) && leb (m .round) (m .t + 2)))
 
+-- "In range now also means that it names only processes 1 to n and not the own number": the silent set
+unfoldable pub silentOthers : Member → Bool
+silentOthers m = namesOthers (m .n) (m .id - 1) (m .silent)
+
 -- "In range means: .."
 unfoldable pub inRange : ℕ → Member → Bool
-inRange limit m = inLimits limit m && placed m
+inRange limit m = inLimits limit m && (placed m && silentOthers m)
 
 -- "Stopped means: round t + 2, or decided in d with round d + 2."
 unfoldable pub stopped : Member → Bool

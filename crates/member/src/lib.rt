@@ -16,9 +16,11 @@ pub use state::is_stopped;
 ghost use mathlib.Core.Path.{_≡_};
 ghost use Rattle.sets.specs.Largest.{largest};
 ghost use Rattle.member.specs.Answers.{openedIs, openAnswer, saidIs, sayAnswer};
+use sets::Set;
 
 // The state of a member. `id` is its own number, `round` the round to play next, and `decided` the
-// round in which it decided, 0 while it has not. Once it has, `estimate` is the decision.
+// round in which it decided, 0 while it has not. Once it has, `estimate` is the decision. `silent` is the
+// set behind the quiet-round rule: who sent no estimate in the last row that told.
 pub struct Member {
     pub n: u8,
     pub t: u8,
@@ -26,6 +28,7 @@ pub struct Member {
     pub round: u8,
     pub estimate: u8,
     pub decided: u8,
+    pub silent: Set,
 }
 
 // How often each kind of code stands in a row: estimates 0 and 1, decided messages with 0 (aborts)
@@ -81,6 +84,7 @@ pub fn open(n: usize, t: usize, id: usize, vote: u8) -> Opened
         round: 1,
         estimate: vote,
         decided: 0,
+        silent: 0,
     })
 }
 

@@ -1,11 +1,13 @@
 // What a state says: whether it is in range, whether it has stopped, and the code that it sends.
 ghost use mathlib.Core.Path.{_≡_};
+ghost use Prim.Native.Nat.{_≤_};
 ghost use Rattle.sets.specs.Largest.{largest};
-ghost use Rattle.member.specs.State.{inLimits, placed, inRange, stopped};
+ghost use Rattle.member.specs.State.{inLimits, placed, silentOthers, inRange, stopped};
 ghost use Rattle.member.specs.Saying.{says};
 use crate::Member;
 use crate::limits::open_question;
 use laws::is_within;
+use sets::is_of_others;
 
 // Whether n, t, own number and estimate are within their limits: the questions of opening.
 fn is_in_limits(m: Member) -> bool
@@ -33,10 +35,24 @@ fn is_placed(m: Member) -> bool
     round <= t + 2
 }
 
+// Whether the silent set names only processes 1 to n, and not the own number, which is in its limits.
+fn names_others(m: Member) -> bool
+    requires id { ⌜ 1 ≤ m .id ⌝ }
+    ensures tested { λ r. ⌜ r ≡ silentOthers m ⌝ }
+{
+    is_of_others(m.silent, m.n as usize, (m.id - 1) as usize)
+}
+
 pub fn is_in_range(m: Member) -> bool
     ensures tested { λ r. ⌜ r ≡ inRange largest m ⌝ }
 {
-    is_in_limits(m) && is_placed(m)
+    if !is_in_limits(m) {
+        return false;
+    }
+    if !is_placed(m) {
+        return false;
+    }
+    names_others(m)
 }
 
 // Whether a state, in range or not, is that of a stopped member.

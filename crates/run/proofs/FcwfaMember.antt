@@ -14,11 +14,11 @@ use Rattle.member.specs.declared.Tally.{Tally}
 use Rattle.member.specs.declared.Rule.{Rule}
 use Rattle.member.specs.State.{stopped}
 use Rattle.member.specs.Saying.{says}
-use Rattle.member.specs.Hearing.{tallyOf, estimates, told, ruleMet, firstEstimate, lowered, byRule, hears}
+use Rattle.member.specs.Hearing.{tallyOf, estimates, told, ruleMet, firstEstimate, lowered, byRule, becomes, hears, isEstimate}
 use Rattle.member.specs.Promises.{HearingPromises}
 use Rattle.member.proofs.Promises.{becomes-first, becomes-later, undecided-step, decides-last, hearing-promises}
 use Rattle.run.specs.Protocol.{fcwfa}
-use Rattle.run.proofs.OneRound.{isEstimate, estimatesIn, NoneDecided, LoweredBy, ToldBy, FirstRound, by-zeros, by-quiet, by-count, by-last, Ends, decides, waits}
+use Rattle.run.proofs.OneRound.{estimatesIn, NoneDecided, LoweredBy, ToldBy, FirstRound, by-zeros, by-quiet, by-count, by-last, Ends, decides, waits}
 use Rattle.run.proofs.Rows.{Counts, counts-of, some-one, no-one, told-value, is-told, not-told, lowered-by, first-estimate}
 use Rattle.run.proofs.Behaviour.{Behaves, Phase, waiting, fresh, over}
 use Rattle.run.proofs.Chosen as rule
@@ -114,7 +114,7 @@ moves-of n t r m row a u = elim (may-decide m row u) [ inl z ↦ inl z | inr z �
 record Later (n t r : ℕ) (m : Member) (row : List ℕ) : Type 0 where
   met : Rule
   chose : Chosen n t (suc r) (tallyOf row) met
-  is : hears m row ≡ byRule met m (tallyOf row)
+  is : becomes m (tallyOf row) ≡ byRule met m (tallyOf row)
   in-round : m .round ≡ suc r
 
 chosen-for : (n t r : ℕ) {n′ t′ r′ : ℕ} (k : Tally) → n′ ≡ n → t′ ≡ t → r′ ≡ r → Chosen n t r k (ruleMet n′ t′ r′ k)

@@ -8,7 +8,8 @@ use native.Mathlib.Omega.{arith}
 use lib.Dec.{leb}
 use borrow.Author.Tests.{leb-true}
 use Rattle.laws.proofs.Counting.{split, count-mono, count-not}
-use Rattle.run.proofs.OneRound.{isEstimate, estimatesIn, Why, by-zeros, by-quiet, by-count, by-last, decides, waits}
+use Rattle.member.specs.Hearing.{isEstimate}
+use Rattle.run.proofs.OneRound.{estimatesIn, Why, by-zeros, by-quiet, by-count, by-last, decides, waits}
 use Rattle.run.proofs.World.{World, RoundLaws, DecisionRules, crashes, NobodyDecided}
 use Rattle.run.proofs.States.{heard-by-all, nobody-told, plays-on}
 use Rattle.run.proofs.EarlyDecision.{EndsUndecided}

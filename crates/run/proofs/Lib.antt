@@ -1,6 +1,5 @@
 pub mod OneRound
 pub mod World
-pub mod Codes
 pub mod States
 pub mod EarlyDecision
 pub mod Votes
@@ -17,6 +16,7 @@ pub mod RunWorld
 pub mod FcwfaRun
 pub mod Settling
 pub mod CrashesSoFar
+pub mod SilentSets
 pub mod RoundB
 pub mod KeptOpen
 pub mod LeftOpen

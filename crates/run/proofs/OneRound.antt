@@ -2,15 +2,10 @@
 -- estimate and the decided round that it has after it. Assumes nothing.
 use mathlib.Core.Path.{_≡_}
 use mathlib.Core.Logic.{_⊎_, _≢_}
-use mathlib.Core.Bool.{Bool, _||_}
 use Prim.Native.Nat.{ℕ, suc, _+_, _≤_, _<_}
-use lib.Dec.{eqb}
 use Rattle.laws.specs.Below.{count}
 use Rattle.laws.proofs.Counting.{Some}
-
--- a code that is an estimate
-abbrev pub isEstimate : ℕ → Bool
-isEstimate x = eqb x 1 || eqb x 2
+use Rattle.member.specs.Hearing.{isEstimate}
 
 -- how many estimates are among the codes
 abbrev pub estimatesIn : ℕ → (ℕ → ℕ) → ℕ

@@ -12,10 +12,10 @@ use Rattle.laws.proofs.Test.{true-or-false, and-left, and-right, or-left, or-ri
 use Rattle.laws.proofs.Counting.{Some, split, count-same, count-either, count-pos, count-some, count-zero, count-of-none, count-full, count-short}
 use Rattle.laws.proofs.Lists.{length-tabulate, getD-tabulate}
 use Rattle.member.specs.declared.Tally.{Tally}
-use Rattle.member.specs.Hearing.{codes, tallyOf, estimates, told, toldBoth, firstEstimate, lowered, toldValue}
+use Rattle.member.specs.Hearing.{codes, tallyOf, estimates, told, toldBoth, firstEstimate, lowered, toldValue, isEstimate}
 use Rattle.member.proofs.Counts.{one-code}
-use Rattle.run.proofs.OneRound.{isEstimate, estimatesIn, NoneDecided, LoweredBy}
-use Rattle.run.proofs.Codes.{estimate-not-0}
+use Rattle.run.proofs.OneRound.{estimatesIn, NoneDecided, LoweredBy}
+use Rattle.member.proofs.Codes.{estimate-not-0}
 
 pub codes-are : (test : ℕ → Bool) (n : ℕ) (c : ℕ → ℕ) → codes test (tabulate n c) ≡ count n (λ j. test (c j))
 unfolding codes

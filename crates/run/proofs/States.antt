@@ -154,6 +154,20 @@ module _ (w : World) where
               laws .told d i j o p jl (omega arith) (omega arith)
         ]
 
+    -- nobody that took part until round r said its decision before it to a process that is undecided still
+    pub said-before : (r i j : ℕ) → Plays w r i → j < n → r < crash j → 0 < decided r j → decided r j < r → ⊥
+    said-before r i j o jl a p b =
+        let rt = o .time in
+        let il = o .process in
+        let ia = o .alive in
+        let u = o .undecided in
+        let d = decided r j in
+        let m = made-at r j d (omega arith) jl p refl in
+        let od : Plays w d i = record { time = omega arith; process = il; alive = omega arith; undecided = undecided d r i (omega arith) (omega arith) il u } in
+        let told = hears-of d i j od p jl (omega arith) (m .0) .decided-is in
+        let v = undecided (suc d) r i (omega arith) (omega arith) il u in
+        omega arith
+
     -- whoever sends nothing to an undecided process has crashed
     pub missing : (r i j : ℕ) → Plays w r i → j < n → code r i j ≡ 0 → crash j ≤ suc r
     missing r i j o jl z =
@@ -161,18 +175,7 @@ module _ (w : World) where
           | inl a ↦ a
           | inr a ↦
               absurd (elim (laws .heard r i j (o .time) (o .process) jl) [
-                | hears-nothing _ s ↦
-                    let rt = o .time in
-                    let il = o .process in
-                    let ia = o .alive in
-                    let u = o .undecided in
-                    let h = s a in
-                    let d = decided r j in
-                    let m = made-at r j d (omega arith) jl (h .0) refl in
-                    let od : Plays w d i = record { time = omega arith; process = il; alive = omega arith; undecided = undecided d r i (omega arith) (omega arith) il u } in
-                    let told = hears-of d i j od (h .0) jl (omega arith) (m .0) .decided-is in
-                    let v = undecided (suc d) r i (omega arith) (omega arith) il u in
-                    omega arith
+                | hears-nothing _ s ↦ let h = s a in said-before r i j o jl (omega arith) (h .0) (h .1)
                 | hears-estimate _ _ e ↦ omega arith
                 | hears-decision _ _ _ e ↦ omega arith
               ])

@@ -14,6 +14,7 @@ use Rattle.run.proofs.Rounds.{completes-if}
 use Rattle.run.proofs.CrashesSoFar.{by-crashes-so-far, by-last-round}
 use Rattle.run.proofs.RoundB.{settling-follows, within-b}
 use Rattle.run.proofs.LeftOpen.{no-sooner}
+use Rattle.run.proofs.SilentSets.{silent-sets}
 use Rattle.run.proofs.Demand.{demand-3}
 use Rattle.run.proofs.Reported.{reported}
 use Rattle.run.proofs.NoneRefused.{none-refused}
@@ -40,6 +41,7 @@ accepted-run s limit answers e =
       settled = settling-follows s (CompletesUndecided fcwfa s) (by-crashes-so-far s (a .rules)) (by-last-round s (a .rules));
       within-b = within-b s (a .rules .few);
       no-sooner = λ r l. no-sooner s (a .rules) r (omega arith);
+      silent-sets = silent-sets s (a .rules);
       reported = reported s (a .rules);
       none-refused = none-refused s (a .rules) limit (a .n-high);
       own-answers = own-answers fcwfa limit s (none-refused s (a .rules) limit (a .n-high));

@@ -5,9 +5,9 @@ use Rattle.laws.specs.Test.{within}
 use Rattle.laws.specs.Below.{sum, count, least, tabulate, fold}
 use Rattle.laws.specs.Answer.{ask, placeAfter}
 use Rattle.member.specs.Opening.{openQuestion}
-use Rattle.member.specs.State.{inLimits, placed, inRange, stopped}
+use Rattle.member.specs.State.{inLimits, placed, silentOthers, inRange, stopped}
 use Rattle.member.specs.Saying.{says}
-use Rattle.member.specs.Hearing.{codes, told, toldEarly, toldBoth, zerosOnly, quiet, enough, ruleMet, firstEstimate, lowered, toldValue, byRule, becomes}
+use Rattle.member.specs.Hearing.{codes, told, toldEarly, toldBoth, zerosOnly, quiet, enough, ruleMet, firstEstimate, lowered, toldValue, byRule, becomes, setsSilent, silentAfter}
 use Rattle.member.specs.Questions.{sayQuestion, rowQuestion, hearQuestion}
 use Rattle.sets.specs.Sets.{names}
 use Rattle.schedule.specs.Schedule.{crashedBy}
@@ -18,7 +18,7 @@ use Rattle.run.specs.CrashesSoFar.{earlyRound, settlingRound}
 use Rattle.run.specs.Vectors.{RunVectors}
 
 pub run-vectors : RunVectors
-unfolding within sum count least fold ask placeAfter openQuestion inLimits placed inRange stopped says codes told toldEarly toldBoth firstEstimate becomes sayQuestion rowQuestion hearQuestion crashedBy ahead before firstWith firstOf lastOf roundB mostMessages ones onesIn tabulate zerosOnly quiet enough ruleMet lowered toldValue byRule names completesRound isHeard delivered codeHeard rowOf stateAfter nextState played opened statesAfter final sentBy messages earlyRound settlingRound
+unfolding within sum count least fold ask placeAfter openQuestion inLimits placed silentOthers inRange stopped says codes told toldEarly toldBoth firstEstimate becomes setsSilent silentAfter sayQuestion rowQuestion hearQuestion crashedBy ahead before firstWith firstOf lastOf roundB mostMessages ones onesIn tabulate zerosOnly quiet enough ruleMet lowered toldValue byRule names completesRound isHeard delivered codeHeard rowOf stateAfter nextState played opened statesAfter final sentBy messages earlyRound settlingRound
 run-vectors =
     record {
       round-b-of-3 = refl;
@@ -31,6 +31,7 @@ run-vectors =
       first-by-round = refl;
       first-survivor = refl;
       last = refl;
+      silent-sets = refl;
       refused-opening = refl;
       refused-saying = refl;
       refused-hearing = refl;

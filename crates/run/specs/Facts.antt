@@ -1,5 +1,5 @@
 -- What holds of every run besides demand 3: what its definitions come to, process by process, and the facts that the bench and its readers rely
--- on. Proved in proofs/Rounds.antt, Reported.antt, NoneRefused.antt, OwnAnswers.antt, Silence.antt and Theorem.antt. Assumes nothing.
+-- on. Proved in proofs/Rounds.antt, Reported.antt, NoneRefused.antt, OwnAnswers.antt, SilentSets.antt, Silence.antt and Theorem.antt. Assumes nothing.
 use Prim.Native.Nat.{ℕ, suc, _+_, _-_, _≤_, _<_}
 use mathlib.Core.Path.{_≡_}
 use mathlib.Core.Logic.{_≢_}
@@ -16,6 +16,7 @@ use Rattle.run.specs.Run.{stateAt, codeHeard, rowOf, statesAfter, after}
 use Rattle.run.specs.Report.{givenRound, sent, sentAfter, report}
 use Rattle.run.specs.Demand.{Completes, Decides, CompletesUndecided, roundB, SomeVotedZero, Demand3}
 use Rattle.run.specs.CrashesSoFar.{NobodyUndecided, CrashesSoFar, LastRound, settlingOf, LeftOpen}
+use Rattle.run.specs.SilentSets.{SilentSets}
 use Rattle.run.specs.Given.{GivenNoneBy, GivenPromises}
 
 module _ (P : Protocol) (s : Schedule) where
@@ -97,6 +98,8 @@ pub record RunPromises (limit : ℕ) (s : Schedule) : Type 0 where
   pub within-b : settlingOf s ≤ roundB (report fcwfa s .f) (s .t)
   -- and no round before the settling round will do, by the crash rounds alone
   pub no-sooner : (r : ℕ) → r < settlingOf s → LeftOpen s r
+  -- who was silent: what the set of each member names after each row that sets it
+  pub silent-sets : SilentSets s
   pub reported : Reported s
   pub none-refused : NoneRefused fcwfa limit s
   pub own-answers : OwnAnswers fcwfa limit s

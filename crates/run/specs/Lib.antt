@@ -3,6 +3,7 @@ pub mod Run
 pub mod Report
 pub mod Demand
 pub mod CrashesSoFar
+pub mod SilentSets
 pub mod Deciders
 pub mod Given
 pub mod Facts

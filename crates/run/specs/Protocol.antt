@@ -38,7 +38,7 @@ fcwfa = record {
 
 -- what stands at a place that holds no member
 abbrev pub nobody : Member
-nobody = record { n = 0; t = 0; id = 0; round = 0; estimate = 0; decided = 0 }
+nobody = record { n = 0; t = 0; id = 0; round = 0; estimate = 0; decided = 0; silent = 0 }
 
 -- A protocol by what the calls of its members answer, in clusters of up to `limit`: where an opening is refused nobody stands, a member that is
 -- refused its saying says nothing, and "a refused hearing returns .. the state given".

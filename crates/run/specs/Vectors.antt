@@ -10,6 +10,7 @@ use Rattle.member.specs.Opening.{opening}
 use Rattle.schedule.specs.Four.{four, allOne, allZero}
 use Rattle.schedule.specs.Schedule.{scheduleOf, crashedBy}
 use Rattle.run.specs.Protocol.{fcwfa, nobody, byCalls}
+use Rattle.run.specs.Run.{statesAfter}
 use Rattle.run.specs.Report.{firstOf, lastOf, report}
 use Rattle.run.specs.Demand.{roundB, mostMessages}
 use Rattle.run.specs.CrashesSoFar.{settlingOf}
@@ -28,7 +29,7 @@ settlingIn n t crashes = settlingOf (scheduleOf n t [] crashes [])
 
 -- a member of four in round 9, which is not in range: t is 3
 abbrev pub lateMember : Member
-lateMember = record { n = 4; t = 3; id = 1; round = 9; estimate = 1; decided = 0 }
+lateMember = record { n = 4; t = 3; id = 1; round = 9; estimate = 1; decided = 0; silent = 0 }
 
 pub record RunVectors : Type 0 where
   -- B = f + 2 if f ≤ t − 2 and f + 1 otherwise: t = 3 with no crash to three, and t = 5 with no crash to five
@@ -55,9 +56,13 @@ pub record RunVectors : Type 0 where
   pub first-survivor : map (λ crashes. firstOfFour crashes (four 2 2 2 2)) (four 3 0 0 0 ∷ four 3 4 4 0 ∷ four 4 3 2 1 ∷ four 1 2 3 4 ∷ allZero ∷ []) ≡ 2 ∷ 4 ∷ 1 ∷ 1 ∷ 1 ∷ []
   -- "the largest decided round"
   pub last : map (λ rounds. lastOf (roundsIn rounds) 4) (four 3 2 2 0 ∷ four 0 4 0 3 ∷ allZero ∷ []) ≡ 3 ∷ 4 ∷ 0 ∷ []
+  -- the silent sets of case E, after rounds 1 to 4: in round 2 process 2 misses process 1, and process 3 also process 4, whose message comes to process 2
+  -- alone; in round 3 process 3 misses process 2 too, and in round 4 the same three
+  pub silent-sets : map (λ r. map (λ m. m .silent) (statesAfter fcwfa (scheduleOf 4 3 allOne (four 1 3 0 2) (four 6 0 0 2)) r)) (four 1 2 3 4)
+      ≡ allZero ∷ four 0 1 9 0 ∷ four 0 1 11 0 ∷ four 0 1 11 0 ∷ []
   -- what the answers of calls come to: an opening with n = 3, and a member in a round past the last, which says nothing and keeps its state whatever it
   -- hears; and calls that are accepted
   pub refused-opening : map (λ n. byCalls largest fcwfa .opening n 3 1 1) (3 ∷ 4 ∷ []) ≡ nobody ∷ opening 4 3 1 1 ∷ []
   pub refused-saying : map (byCalls largest fcwfa .says) (lateMember ∷ opening 4 3 1 1 ∷ []) ≡ 0 ∷ 2 ∷ []
   pub refused-hearing : map (λ m. byCalls largest fcwfa .hears m (four 2 2 2 2)) (lateMember ∷ opening 4 3 1 1 ∷ [])
-      ≡ lateMember ∷ record { n = 4; t = 3; id = 1; round = 2; estimate = 1; decided = 0 } ∷ []
+      ≡ lateMember ∷ record { n = 4; t = 3; id = 1; round = 2; estimate = 1; decided = 0; silent = 0 } ∷ []

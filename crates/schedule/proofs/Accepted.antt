@@ -6,15 +6,16 @@ use mathlib.Core.Logic.{inl, inr, _≢_}
 use mathlib.Core.Bool.{Bool, true, false, not, _&&_, _||_, false≢true}
 use Prim.Native.Nat.{ℕ, _+_, _-_, _^_, _<_}
 use native.Mathlib.Omega.{arith}
-use borrow.Author.Tests.{eqb-true, eq-eqb, ltb-true, lt-ltb, leb-true, le-leb, not-true}
+use borrow.Author.Tests.{eqb-true, eq-eqb, leb-true, le-leb}
 use lib.ListN.{length}
-use lib.Dec.{ltb, leb, eqb}
+use lib.Dec.{leb, eqb}
 use Rattle.laws.specs.Test.{within}
 use Rattle.laws.specs.Answer.{ask, andThen, askEach}
 use Rattle.laws.proofs.Test.{cond-true, and-left, and-right, within-low, within-high, within-is}
 use Rattle.laws.proofs.Counting.{split}
 use Rattle.laws.proofs.Answer.{went-on, passed, and-then-went-on, ask-each-passed, ask-each-passes, ask-each-never}
-use Rattle.sets.specs.Sets.{names}
+use Rattle.sets.specs.Sets.{names, namesOthers}
+use Rattle.sets.proofs.Bits.{of-others-below, of-others-not, of-others}
 use Rattle.schedule.specs.Schedule.{Schedule, voteOf, crashOf, reachOf, crashCount}
 use Rattle.schedule.specs.Questions.{tablesOf, answersOf, tablesLong, reachRight, entryQuestion, processQuestion, question, ProcessRules, Accepted}
 
@@ -48,16 +49,16 @@ module _ (s : Schedule) where
   module _ (i : ℕ) where
     reach-below : reachRight (s .n) i (crashOf s i) (reachOf s i) ≡ true → reachOf s i < 2 ^ s .n
     unfolding reachRight
-    reach-below e = ltb-true _ _ (and-left _ _ e)
+    reach-below e = of-others-below (s .n) i (reachOf s i) (and-left _ _ e)
 
     reach-others : reachRight (s .n) i (crashOf s i) (reachOf s i) ≡ true → names (reachOf s i) i ≡ false
     unfolding reachRight
-    reach-others e = not-true _ (and-left _ _ (and-right (ltb (reachOf s i) (2 ^ s .n)) _ e))
+    reach-others e = of-others-not (s .n) i (reachOf s i) (and-left _ _ e)
 
     reach-none : reachRight (s .n) i (crashOf s i) (reachOf s i) ≡ true → crashOf s i ≡ 0 → reachOf s i ≡ 0
     unfolding reachRight
     reach-none e z =
-        let crashing = and-right (not (names (reachOf s i) i)) _ (and-right (ltb (reachOf s i) (2 ^ s .n)) _ e) in
+        let crashing = and-right (namesOthers (s .n) i (reachOf s i)) _ e in
         eqb-true _ _ (implied (eqb (crashOf s i) 0) _ crashing (eq-eqb _ _ z))
 
     pub process-question-rules : processQuestion s i ≡ 0 → ProcessRules s i
@@ -78,8 +79,7 @@ module _ (s : Schedule) where
     unfolding reachRight
     rules-reach-right r =
         rw (
-          lt-ltb (reachOf s i) (2 ^ s .n) (r .reach),
-          r .not-own,
+          of-others (s .n) i (reachOf s i) (r .reach) (r .not-own),
           implies (eqb (crashOf s i) 0) (eqb (reachOf s i) 0) (λ z. eq-eqb _ _ (r .never (eqb-true _ _ z))),
         )
 

@@ -6,12 +6,12 @@ use lib.ListN.{length}
 use lib.Dec.{leb, eqb}
 use Rattle.laws.specs.Answer.{ask, andThen, askEach}
 use Rattle.member.specs.Opening.{sizeQuestions}
-use Rattle.sets.specs.Sets.{names, upTo}
+use Rattle.sets.specs.Sets.{names, namesOthers}
 use Rattle.schedule.specs.Schedule.{Schedule, voteOf, crashOf, reachOf, crashCount}
 
 -- "A reach names only processes 1 to n, never its own process, and nobody where the crash round is 0.": of the process at place i
 unfoldable pub reachRight : ℕ → ℕ → ℕ → ℕ → Bool
-reachRight n i crash reach = upTo n reach && (not (names reach i) && (not (eqb crash 0) || eqb reach 0))
+reachRight n i crash reach = namesOthers n i reach && (not (eqb crash 0) || eqb reach 0)
 
 -- "vote 0 or 1? 4; crash round at most t + 1? 5; reach as ruled above? 6", of the process at place i
 unfoldable pub entryQuestion : ℕ → ℕ → ℕ → ℕ → ℕ → ℕ → ℕ

@@ -4,7 +4,7 @@ use mathlib.Core.Path.{_≡_, refl, sym, ap, ap₂, _∙_}
 use mathlib.Core.Logic.{inl, inr}
 use mathlib.Core.Bool.{Bool, true, false, true≢false}
 use Prim.Native.Nat.{ℕ, zero, suc, _+_, _-_, _*_, _/_, _%_, _^_, _≤_, _<_}
-use native.Mathlib.Nat.{add-comm, div-one, div-eq-of-lt, div-lt-iff-lt-mul, le-div-iff-mul-le, lt-of-lt-of-le, mod-eq-of-lt, mod-lt, mod-one, mul-le-mul-right, pow-suc}
+use native.Mathlib.Nat.{div-one, div-eq-of-lt, div-lt-iff-lt-mul, le-div-iff-mul-le, lt-of-lt-of-le, mod-lt, one-mul, pow-suc}
 use native.Mathlib.Numerals.{add-one}
 use native.Mathlib.Omega.{arith}
 use lib.Arith.{lt-one}
@@ -12,12 +12,14 @@ use lib.Count.{ones, ones-step}
 use lib.Dec.{eqb}
 use lib.Pow as Pow
 use borrow.Author.Count.{below-none}
-use borrow.Author.Tests.{eqb-true, eqb-false, ltb-true, lt-ltb, le-ltb}
+use borrow.Author.Tests.{eqb-true, eqb-false, ltb-true, lt-ltb, le-ltb, not-true}
 use Rattle.laws.specs.Below.{bit, count, sum}
-use Rattle.laws.proofs.Test.{true-or-false}
+use Rattle.laws.proofs.Test.{true-or-false, and-left, and-right}
 use Rattle.laws.proofs.Below.{bit-high, bit-same}
-use Rattle.laws.proofs.Counting.{split, below-or-top, count-first, count-same, count-full}
-use Rattle.sets.specs.Sets.{names, upTo, setOf}
+use Rattle.laws.proofs.Counting.{split, count-first, count-same, count-full}
+use Rattle.laws.proofs.Sums.{sum-same}
+use Rattle.laws.proofs.Numerals.{numeral, digitAt, of-its-digits, numeral-below, digit-found}
+use Rattle.sets.specs.Sets.{names, upTo, namesOthers, setOf}
 
 -- Below 2 ^ n, and past it.
 
@@ -91,54 +93,44 @@ ones-of-others n set i h l missed =
 pub bit-moved : (width d j : ℕ) → d ≤ 1 → j < width → (d * 2 ^ j) % 2 ^ width ≡ d * 2 ^ j
 bit-moved width d j h l = Pow.shl-exact {a = d} 1 j width (omega arith) (omega arith)
 
-bits-sum : (n set : ℕ) → setOf n (λ j. bit (names set j)) ≡ set % 2 ^ n
-unfolding sum
-bits-sum zero set = sym (mod-one set)
-bits-sum (suc n) set =
-    ap₂ (λ (a b : ℕ). a + b * 2 ^ n) (bits-sum n set) (named-bit set n)
-    ∙ add-comm (set % 2 ^ n) (set / 2 ^ n % 2 * 2 ^ n)
-    ∙ sym (Pow.mod-pow-add set 1 n)
-    ∙ ap (λ (k : ℕ). set % 2 ^ k) {x = 1 + n} {y = suc n} (omega arith)
+-- the digits of a set are its bits
+one-bit-digits : (n : ℕ) (digit : ℕ → ℕ) → setOf n digit ≡ numeral 1 n digit
+one-bit-digits n digit = sum-same n _ _ (λ j _. ap (λ (k : ℕ). digit j * 2 ^ k) (sym (one-mul j)))
+
+bit-digit : (set j : ℕ) → bit (names set j) ≡ digitAt 1 set j
+bit-digit set j = named-bit set j ∙ ap (λ (k : ℕ). set / 2 ^ k % 2) (sym (one-mul j))
 
 pub of-its-bits : (n set : ℕ) → set < 2 ^ n → setOf n (λ j. bit (names set j)) ≡ set
-of-its-bits n set h = bits-sum n set ∙ mod-eq-of-lt h
-
--- the bits below place n are those of the n low bits
-low-names : (set n j : ℕ) → j < n → names (set % 2 ^ n) j ≡ names set j
-unfolding names
-low-names set n j l =
-    let m = n - j - 1 in
-    let exponent : n ≡ m + 1 + j = omega arith in
-    ap (λ (x : ℕ). eqb (x % 2) 1)
-    (ap (λ (k : ℕ). set % 2 ^ k / 2 ^ j) exponent ∙ Pow.field set (m + 1) j)
-    ∙ ap (λ (x : ℕ). eqb x 1) (Pow.mod-mod-pow (set / 2 ^ j) m 1)
+of-its-bits n set h =
+    one-bit-digits n (λ j. bit (names set j))
+    ∙ sum-same n _ _ (λ j _. ap (λ (d : ℕ). d * 2 ^ (1 * j)) (bit-digit set j))
+    ∙ of-its-digits 1 n set (rw (one-mul n) h)
 
 module _ (digit : ℕ → ℕ) where
   pub set-below : (n : ℕ) → ((j : ℕ) → j < n → digit j ≤ 1) → setOf n digit < 2 ^ n
-  unfolding sum
-  set-below zero h = omega arith
-  set-below (suc n) h =
-      let below = set-below n (λ j l. h j (omega arith)) in
-      let one : digit n * 2 ^ n ≤ 1 * 2 ^ n = mul-le-mul-right (2 ^ n) (h n (omega arith)) in
-      let twice : 2 ^ suc n ≡ 2 ^ n * 2 = pow-suc 2 n in
+  set-below n h =
+      let below = numeral-below 1 digit n (λ j l. let d = h j l in omega arith) in
+      let same = one-bit-digits n digit in
+      let power : 2 ^ (1 * n) ≡ 2 ^ n = ap (λ (k : ℕ). 2 ^ k) (one-mul n) in
       omega arith
 
   pub set-bits : (n : ℕ) → ((j : ℕ) → j < n → digit j ≤ 1) → (j : ℕ) → j < n → bit (names (setOf n digit) j) ≡ digit j
-  unfolding sum
-  set-bits zero h = below-none (λ j. bit (names (setOf 0 digit) j) ≡ digit j)
-  set-bits (suc n) h =
-      let few : (j : ℕ) → j < n → digit j ≤ 1 = λ j l. h j (omega arith) in
-      let below = set-below n few in
-      let parts : setOf (suc n) digit ≡ digit n * 2 ^ n + setOf n digit = add-comm (setOf n digit) (digit n * 2 ^ n) in
-      let top : digit n ≤ 1 = h n (omega arith) in
-      below-or-top (λ j. bit (names (setOf (suc n) digit) j) ≡ digit j) n
-      (λ j l.
-      ap bit (sym (low-names (setOf (suc n) digit) n j l))
-      ∙ ap (λ (x : ℕ). bit (names x j)) (ap (λ (x : ℕ). x % 2 ^ n) parts ∙ Pow.low (digit n) n below)
-      ∙ set-bits n few j l)
-      (named-bit (setOf (suc n) digit) n
-      ∙ ap (λ (x : ℕ). x % 2) (ap (λ (x : ℕ). x / 2 ^ n) parts ∙ Pow.high (digit n) n below)
-      ∙ mod-eq-of-lt (omega arith))
+  set-bits n h j l =
+      bit-digit (setOf n digit) j
+      ∙ ap (λ (x : ℕ). digitAt 1 x j) (one-bit-digits n digit)
+      ∙ digit-found 1 digit n (λ j l. let d = h j l in omega arith) j l
+
+-- A set of processes 1 to n without the one at place i, both ways.
+
+module _ (n i set : ℕ) where
+  pub of-others-below : namesOthers n i set ≡ true → set < 2 ^ n
+  of-others-below e = ltb-true set (2 ^ n) (and-left _ _ e)
+
+  pub of-others-not : namesOthers n i set ≡ true → names set i ≡ false
+  of-others-not e = not-true (names set i) (and-right (upTo n set) _ e)
+
+  pub of-others : set < 2 ^ n → names set i ≡ false → namesOthers n i set ≡ true
+  of-others low missed = rw (lt-ltb set (2 ^ n) low, missed)
 
 -- The set of those below n that pass a test: it is one of n processes, and names just them.
 

@@ -8,7 +8,7 @@ ghost use mathlib.Core.Path.{_≡_};
 ghost use lib.Count.{ones as Count·ones};
 ghost use lib.ListN.{length, getD, replicate};
 ghost use Rattle.sets.specs.Largest.{largest, fitting as Largest·fitting};
-ghost use Rattle.sets.specs.Sets.{names, upTo};
+ghost use Rattle.sets.specs.Sets.{names, upTo, namesOthers};
 
 // The largest n that is accepted: the bits of a set, and the entries of a table.
 pub const WIDTH: usize = 64;
@@ -61,6 +61,13 @@ pub fn is_up_to(set: Set, n: usize) -> bool
         return false;
     }
     true
+}
+
+// Whether the set names only processes 1 to n, and not the one at place i.
+pub fn is_of_others(set: Set, n: usize, i: usize) -> bool
+    ensures tested { λ r. ⌜ r ≡ namesOthers n i set ⌝ }
+{
+    is_up_to(set, n) && !is_named(set, i)
 }
 
 // How many processes the set names.

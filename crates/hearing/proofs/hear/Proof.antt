@@ -9,7 +9,7 @@ use Rattle.member.specs.State.{inRange, stopped}
 use Rattle.member.specs.Questions.{hearQuestion}
 use Rattle.member.specs.Answers.{saidIs, sayAnswer, hearAnswer}
 use Rattle.member.proofs.Range.{in-range-ranged}
-use Rattle.hearing.proofs.Asked.{say-refused, say-in-range, say-code, row-refused, row-accepted}
+use Rattle.hearing.proofs.Asked.{say-refused, say-in-range, say-code, all-codes, row-refused, row-accepted}
 use Rattle.hearing.proofs.Counted.{estimates-high}
 use borrow.Author.Needs.{needs}
 use Rattle.hearing.proofs.hear.Statement.{statement}
@@ -78,21 +78,37 @@ returns-4 c =
     row-refused largest _ _ (ranges s) (sym (c1 .before .is-stopped .ensures) ∙ c1 .if1 .left) (c2 .if2 .left) _ _
     (c .before .before .before .tally .ensures) (c .before .row-question .ensures _ refl (say-code largest _ (said s))) (c .if3 .taken)
 
+silent-after-requires : tie.Need-silent-after-requires
+silent-after-requires c κs =
+    let c2 = c .before .before .before .before .before in
+    let s = c2 .before .before .before .before .before in (
+      omega (arith, in-range-ranged _ _ (ranges s) .bounds, c2 .if2 .left),
+      (
+        c .before .before .before .tally .ensures,
+        all-codes _ _ _ _ (c .before .row-question .ensures _ refl (say-code largest _ (said s))) (c .if3 .left),
+      ),
+    )
+
 next-requires : tie.Need-next-requires
 next-requires c κs =
-    let c2 = c .before .before .before .before .before in (
+    let c3 = c .before in
+    let c2 = c3 .before .before .before .before .before in (
       ranges (c2 .before .before .before .before .before),
-      omega (arith, estimates-high _ _ (c .before .before .before .tally .ensures), c2 .if2 .left),
+      omega (arith, estimates-high _ _ (c3 .before .before .before .tally .ensures), c2 .if2 .left),
     )
+
+with-silent-requires : tie.Need-with-silent-requires
+with-silent-requires c κs = search needs
 
 returns-5 : tie.Need-returns-5
 returns-5 c =
-    let c3 = c .before in
+    let c3 = c .before .before .before in
     let c2 = c3 .before .before .before .before .before in
     let c1 = c2 .before .before in
     let s = c1 .before .before .before in
     row-accepted largest _ _ (ranges s) (sym (c1 .before .is-stopped .ensures) ∙ c1 .if1 .left) (c2 .if2 .left) _ _
-    (c3 .before .before .before .tally .ensures) (c3 .before .row-question .ensures _ refl (say-code largest _ (said s))) (c3 .if3 .left) _ (c .next .ensures)
+    (c3 .before .before .before .tally .ensures) (c3 .before .row-question .ensures _ refl (say-code largest _ (said s))) (c3 .if3 .left) _ _
+    (c .before .next .ensures) (c .before .before .silent-after .ensures) _ (c .with-silent .ensures)
 
 pub hear-spec : {M : Type 1} → statement M
 hear-spec =
@@ -112,5 +128,7 @@ hear-spec =
     shared-slice-read-row-question
     row-question-requires
     returns-4
+    silent-after-requires
     next-requires
+    with-silent-requires
     returns-5)

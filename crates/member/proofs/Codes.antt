@@ -7,7 +7,7 @@ use native.Mathlib.Nat.{eq-zero-or-pos}
 use native.Mathlib.Omega.{arith}
 use borrow.Author.Tests.{ne-eqb}
 use Rattle.laws.proofs.Counting.{split}
-use Rattle.run.proofs.OneRound.{isEstimate}
+use Rattle.member.specs.Hearing.{isEstimate}
 
 pub is-estimate : (x : ℕ) → 1 ≤ x → x ≤ 2 → isEstimate x ≡ true
 is-estimate x lo hi =

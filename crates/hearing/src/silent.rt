@@ -1,0 +1,76 @@
+// Who was silent: the set behind the quiet-round rule (document 02, K7). It is made in a pass of its own over the
+// row, and only where a row sets it.
+ghost use mathlib.Core.Path.{_≡_};
+ghost use Prim.Native.Nat.{ℕ, _≤_, _<_};
+ghost use lib.Dec.{eqb};
+ghost use lib.ListN.{length, getD};
+ghost use Rattle.laws.specs.Below.{bit as Below·bit};
+ghost use Rattle.sets.specs.Largest.{largest};
+ghost use Rattle.sets.specs.Sets.{setOf};
+ghost use Rattle.member.specs.Hearing.{tallyOf, setsSilent, silentAfter, withSilent};
+use crate::codes::is_told;
+use laws::bit;
+use member::Member;
+use member::Tally;
+use sets::Set;
+
+// The set of the places of a row at which 0 stands.
+fn zero_places(row: &[u8]) -> Set
+    requires short { ⌜ length (now row) ≤ largest ⌝ }
+    requires low { ⌜ ((j : ℕ) → j < length (now row) → getD (now row) j 0 ≤ 2) ⌝ }
+    ensures named { λ r. ⌜ r ≡ setOf (length (now (row .entry))) (λ j. Below·bit (eqb (getD (now (row .entry)) j 0) 0)) ⌝ }
+{
+    let mut set: Set = 0;
+    let mut j: usize = 0;
+    while j < row.len() {
+        set += (bit(row[j] == 0) as Set) << (j as Set);
+        j += 1;
+    }
+    set
+}
+
+// Whether a row with these counts sets the silent set.
+fn is_set(m: Member, k: Tally) -> bool
+    ensures tested { λ r. ⌜ r ≡ setsSilent m k ⌝ }
+{
+    if m.decided != 0 {
+        return false;
+    }
+    if m.round < 2 {
+        return false;
+    }
+    !is_told(k)
+}
+
+// The silent set after a row with these counts, all of which are codes. Where it is set and every code is an
+// estimate, nobody was silent, and no pass is made.
+pub fn silent_after(m: Member, row: &[u8], k: Tally) -> Set
+    requires short { ⌜ length (now row) ≤ largest ⌝ }
+    requires counted { ⌜ k ≡ tallyOf (now row) ⌝ }
+    requires codes { ⌜ k .others ≡ 0 ⌝ }
+    ensures left { λ r. ⌜ r ≡ silentAfter m (now (row .entry)) ⌝ }
+{
+    if !is_set(m, k) {
+        return m.silent;
+    }
+    let estimates = k.zeros + k.ones;
+    if estimates as usize == row.len() {
+        return 0;
+    }
+    zero_places(row)
+}
+
+// A state with another silent set.
+pub fn with_silent(m: Member, set: Set) -> Member
+    ensures is { λ r. ⌜ r ≡ withSilent m set ⌝ }
+{
+    Member {
+        n: m.n,
+        t: m.t,
+        id: m.id,
+        round: m.round,
+        estimate: m.estimate,
+        decided: m.decided,
+        silent: set,
+    }
+}
