@@ -1,5 +1,5 @@
 //! The commit bench and its members, written a second time from document 01, and from document 02 as far as its
-//! requests have landed: so far K1, K3, K4, K8 and K11. Where document 02 changes document 01, document 02 stands.
+//! requests have landed: so far K1, K3, K4, K7, K8 and K11. Where document 02 changes document 01, document 02 stands.
 //!
 //! The modules follow document 01 in its order. Processes and rounds are numbered from 1, as there; the entry of
 //! process i in a table stands at place i - 1.
@@ -15,13 +15,14 @@ pub mod questions;
 pub mod report;
 pub mod run;
 pub mod schedule;
+pub mod silent;
 pub mod so_far;
 pub mod text;
 
 /// The largest number of processes.
 pub const LARGEST: usize = 64;
 
-/// A set of processes, such as a reach; bit i - 1 stands for process i.
+/// A set of processes, such as a reach or the silent ones of a row; bit i - 1 stands for process i.
 pub type Set = u64;
 
 /// The length of the longest text in bytes.

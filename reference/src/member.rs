@@ -1,6 +1,9 @@
-//! One member's machine (document 01, "One member", and the member's part of "Questions before work").
+//! One member's machine (document 01, "One member", and the member's part of "Questions before work"; document 02, K7:
+//! the set of silent processes).
 
 use crate::questions::{ask, ask_sizes, ask_vote, Refusal};
+use crate::schedule::{bit, everyone};
+use crate::Set;
 
 /// The codes of a row.
 pub const NOTHING: u8 = 0;
@@ -13,7 +16,13 @@ pub const DECIDED_0: u8 = 3;
 /// "decided" with 1.
 pub const DECIDED_1: u8 = 4;
 
-/// The state of a member: six numbers. A value of this type need not be in range.
+/// The length of a state in bytes: six numbers of one byte each, then the set as eight bytes.
+pub const STATE_BYTES: usize = 14;
+
+/// The place of the set's first byte, counted from 0.
+const SET_AT: usize = 6;
+
+/// The state of a member: six numbers and a set. A value of this type need not be in range.
 #[derive(Clone, Copy, Debug, PartialEq, Eq)]
 pub struct Member {
     /// The number of processes.
@@ -28,6 +37,8 @@ pub struct Member {
     pub estimate: u8,
     /// The decided round, 0 while undecided.
     pub decided: usize,
+    /// The silent processes: those that sent no estimate in the last row that set it; nobody at opening.
+    pub silent: Set,
 }
 
 /// How often a code stands in a row.
@@ -36,12 +47,19 @@ fn count(row: &[u8], code: u8) -> usize {
 }
 
 /// Whether code 3 or 4 stands in a row.
-fn has_decided(row: &[u8]) -> bool {
+pub fn has_decided(row: &[u8]) -> bool {
     row.contains(&DECIDED_0) || row.contains(&DECIDED_1)
 }
 
+/// The processes that sent no estimate: those whose code in a row is neither 1 nor 2.
+pub fn silent_in(row: &[u8]) -> Set {
+    let estimate = |code: u8| code == ESTIMATE_0 || code == ESTIMATE_1;
+    let silent = (1..).zip(row).filter(|(_, code)| !estimate(**code));
+    silent.fold(0, |set, (i, _)| set | bit(i))
+}
+
 impl Member {
-    /// Opening: round 1, estimate = vote, undecided; refused by 1, 2, 10, 4.
+    /// Opening: round 1, estimate = vote, undecided, and the set is empty; refused by 1, 2, 10, 4.
     pub fn open(n: usize, t: usize, own: usize, vote: u8) -> Result<Member, Refusal> {
         ask_sizes(n, t)?;
         ask((1..=n).contains(&own), Refusal::OwnNumber)?;
@@ -53,11 +71,13 @@ impl Member {
             round: 1,
             estimate: vote,
             decided: 0,
+            silent: 0,
         })
     }
 
-    /// The state whose six numbers are these bytes, in the order of the fields.
-    pub fn from_bytes([n, t, own, round, estimate, decided]: [u8; 6]) -> Member {
+    /// The state that these bytes are: the six numbers in the order of the fields, then the set, its lowest byte first.
+    pub fn from_bytes(bytes: [u8; STATE_BYTES]) -> Member {
+        let [n, t, own, round, estimate, decided, set @ ..] = bytes;
         Member {
             n: usize::from(n),
             t: usize::from(t),
@@ -65,20 +85,25 @@ impl Member {
             round: usize::from(round),
             estimate,
             decided: usize::from(decided),
+            silent: Set::from_le_bytes(set),
         }
     }
 
-    /// The six numbers as bytes; a state in range fits.
-    pub fn to_bytes(self) -> [u8; 6] {
+    /// The state as bytes; one in range fits.
+    pub fn to_bytes(self) -> [u8; STATE_BYTES] {
         let byte = |number: usize| u8::try_from(number).expect("the number fits a byte");
-        [
+        let numbers = [
             byte(self.n),
             byte(self.t),
             byte(self.own),
             byte(self.round),
             self.estimate,
             byte(self.decided),
-        ]
+        ];
+        let mut bytes = [0; STATE_BYTES];
+        bytes[..SET_AT].copy_from_slice(&numbers);
+        bytes[SET_AT..].copy_from_slice(&self.silent.to_le_bytes());
+        bytes
     }
 
     /// Saying: the code of what the member says; refused by 11.
@@ -105,7 +130,7 @@ impl Member {
         let limits = ask_sizes(self.n, self.t).is_ok()
             && (1..=self.n).contains(&self.own)
             && self.estimate <= 1;
-        limits && self.rounds_in_range()
+        limits && self.rounds_in_range() && self.silent_in_range()
     }
 
     /// The rounds' part of "in range"; n and t are in their limits.
@@ -119,6 +144,13 @@ impl Member {
                     && self.round <= self.t + 2
             }
         }
+    }
+
+    /// The set's part of "in range"; n and the own number are in their limits. Document 02, K7: "it names only
+    /// processes 1 to n and not the own number."
+    fn silent_in_range(&self) -> bool {
+        let others = everyone(self.n) & !bit(self.own);
+        self.silent & !others == 0
     }
 
     /// Whether the member is stopped: round t + 2, or decided in d with round d + 2.
@@ -139,7 +171,8 @@ impl Member {
         }
     }
 
-    /// What hearing a row does, without the questions before it.
+    /// What hearing a row does, without the questions before it. Document 02, K7: "A row heard while undecided from
+    /// round 2 on, without a decided message, makes it the processes that sent no estimate. Every other row leaves it."
     pub fn after(&self, row: &[u8]) -> Member {
         let mut next = *self;
         next.round += 1;
@@ -161,6 +194,7 @@ impl Member {
             if self.decides(row) {
                 next.decided = self.round;
             }
+            next.silent = silent_in(row);
         }
         next
     }

@@ -39,14 +39,36 @@ pub struct Run {
     pub undecided: Vec<Set>,
 }
 
-/// Runs a schedule to its end, or gives the number of its refusal. Each hearing asks its own questions too: document
-/// 01 says that none of them is answered by no here.
+/// A row that a process hears in a run, and its member's state before and after it.
+#[derive(Clone, Debug, PartialEq, Eq)]
+pub struct Hearing {
+    /// The round of the run.
+    pub round: usize,
+    /// The state at the start of the round.
+    pub before: Member,
+    /// The row.
+    pub row: Vec<u8>,
+    /// The state after it.
+    pub after: Member,
+}
+
+/// Runs a schedule to its end, or gives the number of its refusal.
 pub fn run(schedule: &Schedule) -> Result<Run, Refusal> {
     schedule.ask()?;
-    Ok(play(schedule, |member, row| {
-        let heard = member.hear(row);
-        heard.expect("a member of a bench run refuses no row")
-    }))
+    Ok(play(schedule, hear))
+}
+
+/// The same with every hearing of the run, as [`play_heard`] has them.
+pub fn run_heard(schedule: &Schedule) -> Result<(Run, Vec<Hearing>), Refusal> {
+    schedule.ask()?;
+    Ok(play_heard(schedule, hear))
+}
+
+/// What hearing a row does in a run. Each hearing asks its own questions too: document 01 says that none of them is
+/// answered by no here.
+fn hear(member: &Member, row: &[u8]) -> Member {
+    let heard = member.hear(row);
+    heard.expect("a member of a bench run refuses no row")
 }
 
 /// The call on tables: fills the answer tables and gives the counts; a refused call leaves the tables as they were.
@@ -65,6 +87,30 @@ pub fn simulate(
 /// Plays rounds 1 to t + 1 of an accepted schedule by a given way of hearing. Only [`run`] gives the way of document
 /// 01; another one shows what a wrong turn would answer.
 pub fn play(schedule: &Schedule, hear: impl Fn(&Member, &[u8]) -> Member) -> Run {
+    play_rounds(schedule, |_, member, row| hear(member, row))
+}
+
+/// The same with every hearing of the run: the rounds in order, and in a round the processes in order.
+pub fn play_heard(
+    schedule: &Schedule,
+    hear: impl Fn(&Member, &[u8]) -> Member,
+) -> (Run, Vec<Hearing>) {
+    let mut hearings = Vec::new();
+    let run = play_rounds(schedule, |round, member, row| {
+        let after = hear(member, row);
+        hearings.push(Hearing {
+            round,
+            before: *member,
+            row: row.to_vec(),
+            after,
+        });
+        after
+    });
+    (run, hearings)
+}
+
+/// Plays the rounds by a way of hearing that is told the round, too.
+fn play_rounds(schedule: &Schedule, mut hear: impl FnMut(usize, &Member, &[u8]) -> Member) -> Run {
     let n = schedule.n;
     let mut members = opened(schedule);
     let mut messages = 0;
@@ -76,7 +122,7 @@ pub fn play(schedule: &Schedule, hear: impl Fn(&Member, &[u8]) -> Member) -> Run
         for (member, row) in members.iter_mut().zip(&grid) {
             let completes = schedule.completes(member.own, r);
             if completes && !member.stopped() {
-                *member = hear(member, &row[..n]);
+                *member = hear(r, member, &row[..n]);
             }
             if completes && member.decided == 0 {
                 still_undecided |= bit(member.own);

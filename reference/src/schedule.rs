@@ -21,14 +21,14 @@ pub struct Schedule {
     pub reaches: Vec<Set>,
 }
 
-/// The reach that names process i alone.
+/// The set that names process i alone.
 pub fn bit(i: usize) -> Set {
     1 << (i - 1)
 }
 
-/// The reach that names each of the processes 1 to n, n at most [`LARGEST`](crate::LARGEST).
+/// The set that names each of the processes 1 to n, n at most [`LARGEST`](crate::LARGEST).
 pub fn everyone(n: usize) -> Set {
-    (1..=n).fold(0, |reach, i| reach | bit(i))
+    (1..=n).fold(0, |set, i| set | bit(i))
 }
 
 impl Schedule {

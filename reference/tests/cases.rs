@@ -10,7 +10,7 @@
 
 use reference::questions::Refusal;
 use reference::report::answer;
-use reference::run::{run, Run, NONE};
+use reference::run::{run, run_heard, Run, NONE};
 use reference::schedule::{bit, Schedule};
 use reference::text::{read, write};
 
@@ -45,7 +45,7 @@ fn answers(run: &Run) -> String {
 
 /// Runs the schedule, from tables and from its text, and compares answers, f, first and messages.
 fn expect(schedule: &Schedule, expected: &str, f: usize, first: usize, messages: usize) {
-    let run = run(schedule).expect("a marked schedule is accepted");
+    let (run, hearings) = run_heard(schedule).expect("a marked schedule is accepted");
     assert_eq!(answers(&run), expected);
     let counts = &run.counts;
     let found = (counts.f, counts.first, counts.messages);
@@ -54,6 +54,7 @@ fn expect(schedule: &Schedule, expected: &str, f: usize, first: usize, messages:
     assert_eq!(reference::demand3::check(schedule, &run), Ok(()));
     assert_eq!(reference::first::check(schedule, &run), Ok(()));
     assert_eq!(reference::so_far::check(schedule, &run), Ok(()));
+    assert_eq!(reference::silent::check(schedule, &hearings), Ok(()));
 }
 
 #[test]

@@ -6,7 +6,7 @@
 
 use reference::crashes::count_crashes;
 use reference::questions::Refusal;
-use reference::run::{run, Run, NONE};
+use reference::run::{run, run_heard, Run, NONE};
 use reference::schedule::{bit, everyone, Schedule};
 use reference::text::{read, write};
 use reference::Set;
@@ -28,7 +28,7 @@ fn one_a_round(n: usize, reach: impl Fn(usize) -> Set) -> Schedule {
 
 /// Runs a schedule, from tables and from its text, and compares f, first, last and messages.
 fn ran(schedule: &Schedule, f: usize, first: usize, last: usize, messages: usize) -> Run {
-    let run = run(schedule).expect("the schedule is accepted");
+    let (run, hearings) = run_heard(schedule).expect("the schedule is accepted");
     let counts = &run.counts;
     let found = (counts.f, counts.first, counts.last, counts.messages);
     assert_eq!(found, (f, first, last, messages));
@@ -36,6 +36,7 @@ fn ran(schedule: &Schedule, f: usize, first: usize, last: usize, messages: usize
     assert_eq!(reference::demand3::check(schedule, &run), Ok(()));
     assert_eq!(reference::first::check(schedule, &run), Ok(()));
     assert_eq!(reference::so_far::check(schedule, &run), Ok(()));
+    assert_eq!(reference::silent::check(schedule, &hearings), Ok(()));
     run
 }
 

@@ -5,9 +5,11 @@ use member::Heard;
 use member::Member;
 use member::Opened;
 use member::Said;
+use sets::Set;
+use sets::is_named;
 
 fn main() {
-    print(b"round id says row estimate decided\n");
+    print(b"round id says row estimate decided silent\n");
     play_all();
     print(b"call number\n");
     refused_openings();
@@ -42,6 +44,20 @@ fn a_member(round: u8, decided: u8) -> Member {
         round: round,
         estimate: 1,
         decided: decided,
+        silent: 0,
+    }
+}
+
+// One in round 2 with this silent set, which names its own number or a process above 4 where it is out of range.
+fn naming(silent: Set) -> Member {
+    Member {
+        n: 4,
+        t: 3,
+        id: 1,
+        round: 2,
+        estimate: 1,
+        decided: 0,
+        silent: silent,
     }
 }
 
@@ -143,6 +159,17 @@ fn letter(code: u8) -> u8 {
     if code < 10 { 48 + code } else { 63 }
 }
 
+// The silent set as letters, place j for process j.
+fn silent_letters(m: Member) -> [u8; 4] {
+    let set = m.silent;
+    [
+        letter(is_named(set, 0) as u8),
+        letter(is_named(set, 1) as u8),
+        letter(is_named(set, 2) as u8),
+        letter(is_named(set, 3) as u8),
+    ]
+}
+
 // One line of the first table: the round, the process, what it said and heard, and what it becomes.
 fn show(before: Member, row: &[u8], round: usize, after: Member) {
     io::print_decimal(STDOUT_FILENO, round as u64);
@@ -156,6 +183,8 @@ fn show(before: Member, row: &[u8], round: usize, after: Member) {
     print_number(after.estimate);
     print(b" ");
     print_number(after.decided);
+    print(b" ");
+    print(&silent_letters(after));
     print(b"\n");
 }
 
@@ -194,6 +223,9 @@ fn refused_states() {
     show_hear(a_member(5, 0), b"\x02\x02\x02\x02");
     show_hear(a_member(255, 255), b"");
     show_hear(a_member(5, 4), b"\x00\x00\x00\x00");
+    show_say(naming(1));
+    show_say(naming(16));
+    show_hear(naming(18446744073709551615), b"\x02\x02\x02\x02");
 }
 
 fn show_say(m: Member) {

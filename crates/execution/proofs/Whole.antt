@@ -30,12 +30,12 @@ module _ (P : Protocol) (s : Schedule) (answers : Bool) (r : ℕ) {q : ℕ} (ask
     passed : question s largest answers ≡ 0
     passed = sym asked ∙ yes?
 
-    pub accepted-leaves : {end : ℕ} {members : List Member} {messages : ℕ} → end ≡ r → Plays P s end members messages
-        → _≡_ {A = Ran} (record { question = q; members = members; messages = messages }) (ranOf P largest s answers r)
-    accepted-leaves same left =
-        let played : Plays P s r _ _ = rw same at left in
+    pub accepted-leaves : {end : ℕ} (left : Ran) → end ≡ r → Plays P s end (left .members) (left .messages) → left .question ≡ 0
+        → left ≡ ranOf P largest s answers r
+    accepted-leaves left same plays none =
+        let played : Plays P s r _ _ = rw same at plays in
         λ i. record {
-          question = asked i;
+          question = (none ∙ sym passed) i;
           members = (played .states ∙ sym (place-given (question s largest answers) (membersAfter P s r) noMembers passed)) i;
           messages = (played .counted ∙ sym (place-given (question s largest answers) (messagesAfter P s r) 0 passed)) i;
         }

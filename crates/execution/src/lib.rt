@@ -58,11 +58,5 @@ pub fn play_rounds(
             messages: 0,
         };
     }
-    let played = play(n, t, votes, crashes, reaches, end_round(last, t));
-    let members = played.members;
-    Ran {
-        question: question,
-        members: members,
-        messages: played.messages,
-    }
+    play(n, t, votes, crashes, reaches, end_round(last, t))
 }

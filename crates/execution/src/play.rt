@@ -8,7 +8,7 @@ ghost use Rattle.schedule.specs.Schedule.{scheduleOf};
 ghost use Rattle.schedule.specs.Questions.{question};
 ghost use Rattle.run.specs.Protocol.{fcwfa};
 ghost use Rattle.execution.specs.Ran.{Plays};
-use crate::round::Played;
+use crate::Ran;
 use crate::round::hear_rows;
 use crate::round::open_all;
 use delivery::deliver;
@@ -44,11 +44,12 @@ fn play_on(
     reaches: &[Set],
     last: usize,
     grid: &mut [[u8; WIDTH]],
-) -> Played
+) -> Ran
     requires accepted { ⌜ question (scheduleOf n t (now votes) (now crashes) (now reaches)) largest true ≡ 0 ⌝ }
     requires rounds { ⌜ last ≤ t + 1 ⌝ }
     requires size { ⌜ n ≤ length (now grid) ⌝ }
     ensures played { λ r. ⌜ Plays fcwfa (scheduleOf n t (now (votes .entry)) (now (crashes .entry)) (now (reaches .entry))) last (r .members) (r .messages) ⌝ }
+    ensures passed { λ r. ⌜ r .question ≡ 0 ⌝ }
 {
     let mut codes = zero_bytes();
     let mut members = open_all(n, t, votes, &mut codes[..]);
@@ -58,7 +59,8 @@ fn play_on(
         let round = (played + 1) as u8;
         let sent = deliver(n, round, &codes, crashes, reaches, &mut grid[..]);
         if sent == 0 {
-            return Played {
+            return Ran {
+                question: 0,
                 members: members,
                 messages: messages,
             };
@@ -68,24 +70,19 @@ fn play_on(
         messages += sent;
         played += 1;
     }
-    Played {
+    Ran {
+        question: 0,
         members: members,
         messages: messages,
     }
 }
 
 // Rounds 1 to `last`. To form the grid is a good part of a small cluster's run, so that one has fewer rows.
-pub fn play(
-    n: usize,
-    t: usize,
-    votes: &[u8],
-    crashes: &[u8],
-    reaches: &[Set],
-    last: usize,
-) -> Played
+pub fn play(n: usize, t: usize, votes: &[u8], crashes: &[u8], reaches: &[Set], last: usize) -> Ran
     requires accepted { ⌜ question (scheduleOf n t (now votes) (now crashes) (now reaches)) largest true ≡ 0 ⌝ }
     requires rounds { ⌜ last ≤ t + 1 ⌝ }
     ensures played { λ r. ⌜ Plays fcwfa (scheduleOf n t (now (votes .entry)) (now (crashes .entry)) (now (reaches .entry))) last (r .members) (r .messages) ⌝ }
+    ensures passed { λ r. ⌜ r .question ≡ 0 ⌝ }
 {
     if n <= FEW {
         let mut grid = few_rows();

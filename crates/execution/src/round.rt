@@ -98,9 +98,3 @@ pub fn hear_rows(
     }
     next
 }
-
-// The states after some rounds, and the messages sent in them.
-pub struct Played {
-    pub members: [Member; WIDTH],
-    pub messages: usize,
-}

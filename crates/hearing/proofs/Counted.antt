@@ -1,12 +1,14 @@
 -- The counts of a row: no more estimates than places, and a loop that has counted the first i places. Assumes nothing.
-use mathlib.Core.Path.{_≡_}
+use mathlib.Core.Path.{_≡_, sym}
 use mathlib.Core.List.{List}
-use mathlib.Core.Bool.{Bool}
+use mathlib.Core.Bool.{Bool, false}
 use Prim.Native.Nat.{ℕ, _≤_}
+use borrow.Author.Tests.{ltb-false}
 use lib.Dec.{eqb, ltb}
 use lib.ListN.{length, getD}
 use Rattle.laws.specs.Below.{count}
 use Rattle.laws.proofs.Below.{count-apart, count-end}
+use Rattle.laws.proofs.Counting.{count-of-none, count-zero}
 use Rattle.member.specs.declared.Tally.{Tally}
 use Rattle.member.specs.Hearing.{codes, tallyOf, estimates}
 use Rattle.member.proofs.Counts.{one-code}
@@ -21,22 +23,23 @@ estimates-high row k e =
 abbrev pub isAt : (ℕ → Bool) → List ℕ → ℕ → Bool
 isAt test row i = test (getD row i 0)
 
--- the counts after i places
-pub record Counted (row : List ℕ) (i zeros ones aborts commits others : ℕ) : Type 0 where
-  pub zeros-are : zeros ≡ count i (isAt (λ c. eqb c 1) row)
-  pub ones-are : ones ≡ count i (isAt (λ c. eqb c 2) row)
-  pub aborts-are : aborts ≡ count i (isAt (λ c. eqb c 3) row)
-  pub commits-are : commits ≡ count i (isAt (λ c. eqb c 4) row)
-  pub others-are : others ≡ count i (isAt (λ c. ltb 4 c) row)
+-- the counts after i places of the codes that pass each of three tests
+pub record Counted (row : List ℕ) (p q r : ℕ → Bool) (i a b c : ℕ) : Type 0 where
+  pub first : a ≡ count i (isAt p row)
+  pub second : b ≡ count i (isAt q row)
+  pub third : c ≡ count i (isAt r row)
 
 -- after all places they are the counts of the row
-pub counted-all : (row : List ℕ) (i zeros ones aborts commits others : ℕ) → Counted row i zeros ones aborts commits others → i ≤ length row → length row ≤ i
-    → _≡_ {A = Tally} (record { zeros = zeros; ones = ones; aborts = aborts; commits = commits; others = others }) (tallyOf row)
+pub counted-all : (row : List ℕ) (p q r : ℕ → Bool) (i a b c : ℕ) → Counted row p q r i a b c → i ≤ length row → length row ≤ i
+    → (a ≡ codes p row) × ((b ≡ codes q row) × (c ≡ codes r row))
 unfolding codes
-counted-all row i zeros ones aborts commits others k p q = λ j. record {
-  zeros = count-end i (length row) _ zeros (k .zeros-are) p q j;
-  ones = count-end i (length row) _ ones (k .ones-are) p q j;
-  aborts = count-end i (length row) _ aborts (k .aborts-are) p q j;
-  commits = count-end i (length row) _ commits (k .commits-are) p q j;
-  others = count-end i (length row) _ others (k .others-are) p q j;
-}
+counted-all row p q r i a b c k lo hi =
+    (count-end i (length row) _ a (k .first) lo hi, (count-end i (length row) _ b (k .second) lo hi, count-end i (length row) _ c (k .third) lo hi))
+
+-- where no code is above 2, none is a decided message and all are codes
+pub nothing-above : (row : List ℕ) (test : ℕ → Bool) → 0 ≡ codes (λ c. ltb 2 c) row → ((c : ℕ) → c ≤ 2 → test c ≡ false) → 0 ≡ codes test row
+unfolding codes
+nothing-above row test none low =
+    sym
+    (count-of-none (length row) (isAt test row)
+    (λ i l. low (getD row i 0) (ltb-false 2 (getD row i 0) (count-zero (length row) (isAt (λ c. ltb 2 c) row) (sym none) i l))))

@@ -5,6 +5,7 @@
 mod codes;
 mod rules;
 mod silent;
+mod zeros;
 
 ghost use mathlib.Core.Path.{_≡_};
 ghost use Rattle.sets.specs.Largest.{largest};

@@ -1,33 +1,15 @@
 // Who was silent: the set behind the quiet-round rule (document 02, K7). It is made in a pass of its own over the
 // row, and only where a row sets it.
 ghost use mathlib.Core.Path.{_≡_};
-ghost use Prim.Native.Nat.{ℕ, _≤_, _<_};
-ghost use lib.Dec.{eqb};
-ghost use lib.ListN.{length, getD};
-ghost use Rattle.laws.specs.Below.{bit as Below·bit};
+ghost use Prim.Native.Nat.{_≤_};
+ghost use lib.ListN.{length};
 ghost use Rattle.sets.specs.Largest.{largest};
-ghost use Rattle.sets.specs.Sets.{setOf};
 ghost use Rattle.member.specs.Hearing.{tallyOf, setsSilent, silentAfter, withSilent};
 use crate::codes::is_told;
-use laws::bit;
+use crate::zeros::zero_places;
 use member::Member;
 use member::Tally;
 use sets::Set;
-
-// The set of the places of a row at which 0 stands.
-fn zero_places(row: &[u8]) -> Set
-    requires short { ⌜ length (now row) ≤ largest ⌝ }
-    requires low { ⌜ ((j : ℕ) → j < length (now row) → getD (now row) j 0 ≤ 2) ⌝ }
-    ensures named { λ r. ⌜ r ≡ setOf (length (now (row .entry))) (λ j. Below·bit (eqb (getD (now (row .entry)) j 0) 0)) ⌝ }
-{
-    let mut set: Set = 0;
-    let mut j: usize = 0;
-    while j < row.len() {
-        set += (bit(row[j] == 0) as Set) << (j as Set);
-        j += 1;
-    }
-    set
-}
 
 // Whether a row with these counts sets the silent set.
 fn is_set(m: Member, k: Tally) -> bool

@@ -13,7 +13,7 @@ use std::slice::from_raw_parts;
 use crate::{Code, Counts, CrashCount, Set, Vote};
 
 /// A member's state: n, t, own number, the round to play next, the estimate and the decided round, a byte each.
-pub type State = [u8; 6];
+pub type State = [u8; 14];
 
 /// The decision of a process that made none; its round is 0.
 pub const NO_DECISION: u8 = 2;
@@ -60,7 +60,7 @@ fn accepted<T>(number: u8, value: T) -> Result<T, u8> {
 /// The state of a new member `id`, from 1, of a cluster of n, from 4 to [`LARGEST`](crate::LARGEST), that bears t crashes, with its vote,
 /// 0 (abort) or 1 (commit). Refusals: 1, 2, 10, 4.
 pub fn open(n: usize, t: usize, id: usize, vote: u8) -> Result<State, u8> {
-    let mut state = [0; 6];
+    let mut state = [0; 14];
     // SAFETY: the pointer is good for the six bytes that the function writes.
     let number = unsafe { foreign::fcwfa_open(n, t, id, vote, state.as_mut_ptr()) };
     accepted(number, state)

@@ -25,13 +25,13 @@ impl Member {
     /// they are the right ones.
     ///
     /// Refusal: [`Refusal::State`], exactly if the bytes are not a state in range.
-    pub fn from_bytes(state: [u8; 6]) -> Result<Member, Refusal> {
+    pub fn from_bytes(state: State) -> Result<Member, Refusal> {
         bytes::say(&state).map_err(Refusal::answered)?;
         Ok(Member { state })
     }
 
     /// The member's state, to be stored or sent for inspection.
-    pub fn to_bytes(&self) -> [u8; 6] {
+    pub fn to_bytes(&self) -> State {
         self.state
     }
 

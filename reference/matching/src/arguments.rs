@@ -4,7 +4,8 @@ use std::path::PathBuf;
 
 /// What the program says when its arguments are wrong.
 pub const USAGE: &str = "\
-matching [--bench PATH] [--seed S]... [--valid N] [--damaged N] [--tables N] [--counts N] [--members N] [--skip-small]
+matching [--bench PATH] [--seed S]... [--valid N] [--damaged N] [--tables N] [--counts N] [--members N] [--runs N]
+         [--skip-small]
 matching --self-test
 matching --help";
 
@@ -15,7 +16,8 @@ const FIRST_SEED: u64 = 1;
 pub fn help() -> String {
     let default = Arguments::default();
     let (valid, damaged) = (default.valid, default.damaged);
-    let (tables, counts, members) = (default.tables, default.counts, default.members);
+    let (tables, counts) = (default.tables, default.counts);
+    let (members, runs) = (default.members, default.runs);
     format!(
         "\
 Puts the same input through the proved code and through the reference, and compares the answers.
@@ -29,6 +31,7 @@ Puts the same input through the proved code and through the reference, and compa
   --tables N     how many calls on tables [{tables}]
   --counts N     how many counts of crashes [{counts}]
   --members N    how many calls to a member [{members}]
+  --runs N       how many runs whose members are opened and hear all their rows [{runs}]
   --skip-small   skip the schedules with n = 4 and t = 3 [all of them are compared]
   --self-test    show that differences are found, in place of the matching
   --help, -h     print this
@@ -63,6 +66,8 @@ pub struct Arguments {
     pub counts: u64,
     /// How many calls to a member.
     pub members: u64,
+    /// How many runs whose members are opened and hear all their rows.
+    pub runs: u64,
     /// Skip the schedules with n = 4 and t = 3.
     pub skip_small: bool,
 }
@@ -79,6 +84,7 @@ impl Default for Arguments {
             tables: 200_000,
             counts: 1_000_000,
             members: 1_000_000,
+            runs: 20_000,
             skip_small: false,
         }
     }
@@ -128,6 +134,7 @@ fn set(arguments: &mut Arguments, name: &str, value: &str) -> Result<(), String>
         "--tables" => arguments.tables = number()?,
         "--counts" => arguments.counts = number()?,
         "--members" => arguments.members = number()?,
+        "--runs" => arguments.runs = number()?,
         _ => return Err(format!("{name} is unknown")),
     }
     Ok(())
@@ -153,7 +160,7 @@ mod tests {
     #[test]
     fn values_are_taken() {
         let line = "--bench x --seed 5 --valid 1 --seed 6 --damaged 2 --tables 3 --counts 4 \
-                    --members 5 --skip-small";
+                    --members 5 --runs 6 --skip-small";
         let expected = Arguments {
             help: false,
             self_test: false,
@@ -164,6 +171,7 @@ mod tests {
             tables: 3,
             counts: 4,
             members: 5,
+            runs: 6,
             skip_small: true,
         };
         assert_eq!(parsed(line), Ok(expected));
@@ -194,7 +202,7 @@ mod tests {
                 assert!(help.contains(&format!("\n  {flag}")), "{flag}");
             }
         }
-        for default in ["[1]", "[4000]", "[200000]", "[1000000]"] {
+        for default in ["[1]", "[4000]", "[200000]", "[1000000]", "[20000]"] {
             assert!(help.contains(default), "{default}");
         }
     }

@@ -15,6 +15,8 @@ pub mod plants;
 pub mod program;
 pub mod proved;
 pub mod random;
+pub mod runs;
+pub mod silent;
 pub mod small;
 pub mod summary;
 pub mod tables;

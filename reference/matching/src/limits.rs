@@ -349,16 +349,21 @@ mod tests {
         }
     }
 
+    /// The state of process 1 of n with t = 3, estimate 1 and an empty set, undecided.
+    fn state(n: u8, round: u8) -> State {
+        [n, 3, 1, round, 1, 0, 0, 0, 0, 0, 0, 0, 0, 0]
+    }
+
     #[test]
     fn machines_with_another_largest_n() {
-        assert_eq!(UpTo(32).open(32, 3, 1, 1), Ok([32, 3, 1, 1, 1, 0]));
+        assert_eq!(UpTo(32).open(32, 3, 1, 1), Ok(state(32, 1)));
         assert_eq!(UpTo(32).open(33, 3, 1, 1), Err(1));
-        assert_eq!(UpTo(32).say(&[33, 3, 1, 1, 1, 0]), Err(11));
-        assert_eq!(UpTo(65).open(65, 3, 1, 1), Ok([65, 3, 1, 1, 1, 0]));
-        assert_eq!(UpTo(65).say(&[65, 3, 1, 1, 1, 0]), Ok(2));
-        let mut state = [65, 3, 1, 1, 1, 0];
-        assert_eq!(UpTo(65).hear(&mut state, &[2; 64]), Ok(()));
-        assert_eq!(state, [65, 3, 1, 2, 1, 0]);
+        assert_eq!(UpTo(32).say(&state(33, 1)), Err(11));
+        assert_eq!(UpTo(65).open(65, 3, 1, 1), Ok(state(65, 1)));
+        assert_eq!(UpTo(65).say(&state(65, 1)), Ok(2));
+        let mut heard = state(65, 1);
+        assert_eq!(UpTo(65).hear(&mut heard, &[2; 64]), Ok(()));
+        assert_eq!(heard, state(65, 2));
         assert_eq!(UpTo(65).open(66, 3, 1, 1), Err(1));
     }
 }

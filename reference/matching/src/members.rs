@@ -1,15 +1,22 @@
 //! Openings, sayings and hearings, accepted and refused, through the machine under test and through the reference.
 
-use reference::member::{Member, DECIDED_0, DECIDED_1, ESTIMATE_0, ESTIMATE_1, NOTHING};
+use reference::member::{
+    Member, DECIDED_0, DECIDED_1, ESTIMATE_0, ESTIMATE_1, NOTHING, STATE_BYTES,
+};
 use reference::questions::{Refusal, MIN_CRASHES, SIZES};
-use reference::LARGEST;
+use reference::schedule::{bit, everyone};
+use reference::{Set, LARGEST};
 
 use crate::generate::{sizes, walked};
 use crate::outcome::{share, Outcome};
 use crate::random::Random;
 
-/// A member's state as six bytes: n, t, own number, round, estimate, decided round.
-pub type State = [u8; 6];
+/// A member's state as bytes: n, t, own number, round, estimate and decided round, one each, then the set of silent
+/// processes as eight, the lowest first.
+pub type State = [u8; STATE_BYTES];
+
+/// How many of the bytes are numbers; the others are the set.
+const NUMBERS_IN_STATE: usize = 6;
 
 /// A member's machine; refusals are numbers, and a refused hearing leaves the state as it was.
 pub trait Machine: Sync {
@@ -152,13 +159,15 @@ fn in_range(random: &mut Random, size: (usize, usize)) -> Member {
         0 => (LARGEST, random.within(MIN_CRASHES..=LARGEST - 1)),
         _ => size,
     };
+    let own = random.within(1..=n);
     let mut member = Member {
         n,
         t,
-        own: random.within(1..=n),
+        own,
         round: random.within(1..=t + 1),
         estimate: random.below(2) as u8,
         decided: 0,
+        silent: silent_set(random, n, own),
     };
     if random.one_in(4) {
         member.decided = random.within(2..=t + 1);
@@ -167,6 +176,17 @@ fn in_range(random: &mut Random, size: (usize, usize)) -> Member {
         member.round = random.pick(&[1, 2, t - 1, t, t + 1]);
     }
     member
+}
+
+/// A set of silent processes in range: nobody, everybody else, one of them, or any.
+fn silent_set(random: &mut Random, n: usize, own: usize) -> Set {
+    let others = everyone(n) & !bit(own);
+    match random.below(6) {
+        0 => 0,
+        1 => others,
+        2 => others & bit(random.within(1..=n)),
+        _ => others & random.bits(),
+    }
 }
 
 fn open(random: &mut Random, member: Member) -> Call {
@@ -216,19 +236,39 @@ fn say_in_any_state(random: &mut Random, member: Member) -> Call {
 /// The largest number in a state in range: the round t + 2 at the largest n and t.
 const MAX_IN_STATE: usize = LARGEST + 1;
 
-/// A state in range with some bytes changed, by little or to anything.
+/// A state in range with one or two changes: a number, any byte, or one process in the set.
 fn any_state(random: &mut Random, member: Member) -> State {
     let mut state = member.to_bytes();
     for _ in 0..random.within(1..=2) {
-        let place = random.below(state.len());
-        state[place] = match random.below(4) {
-            0 => random.byte(),
-            1 => random.within(0..=MAX_IN_STATE + 1) as u8,
-            2 => state[place].wrapping_add(1),
-            _ => state[place].wrapping_sub(1),
-        };
+        match random.below(3) {
+            0 => other_process(random, &member, &mut state),
+            1 => other_byte(random, &mut state[..NUMBERS_IN_STATE]),
+            _ => other_byte(random, &mut state),
+        }
     }
     state
+}
+
+/// Changes a byte by little or to anything.
+fn other_byte(random: &mut Random, bytes: &mut [u8]) {
+    let place = random.below(bytes.len());
+    bytes[place] = match random.below(4) {
+        0 => random.byte(),
+        1 => random.within(0..=MAX_IN_STATE + 1) as u8,
+        2 => bytes[place].wrapping_add(1),
+        _ => bytes[place].wrapping_sub(1),
+    };
+}
+
+/// Takes a process into the set or out of it, often one where "in range" turns: the member itself, process n, the one
+/// above it, and the last one that a set can name.
+fn other_process(random: &mut Random, member: &Member, state: &mut State) {
+    let turns = [member.own, member.n, (member.n + 1).min(LARGEST), LARGEST];
+    let place = match random.below(3) {
+        0 => random.below(LARGEST),
+        _ => random.pick(&turns) - 1,
+    };
+    state[NUMBERS_IN_STATE + place / 8] ^= 1 << (place % 8);
 }
 
 /// A hearing with a right row, changed further.
@@ -368,4 +408,61 @@ fn estimates(random: &mut Random, n: usize) -> Vec<u8> {
         _ => row.fill_with(|| random.pick(&[ESTIMATE_0, ESTIMATE_1])),
     }
     row
+}
+
+#[cfg(test)]
+mod tests {
+    use super::*;
+
+    /// States in range of all sizes, each with the same state changed.
+    fn states() -> impl Iterator<Item = (Member, State)> {
+        let sizes = sizes();
+        (0..20_000).map(move |case| {
+            let mut random = Random::of_case(1, 9, case);
+            let member = in_range(&mut random, walked(&sizes, case as usize));
+            (member, any_state(&mut random, member))
+        })
+    }
+
+    #[test]
+    fn nobody_and_everybody_else_are_often_in_the_set() {
+        let (mut nobody, mut everybody) = (0, 0);
+        for (member, _) in states() {
+            assert!(member.in_range(), "{member:?}");
+            let others = everyone(member.n) & !bit(member.own);
+            nobody += usize::from(member.silent == 0);
+            everybody += usize::from(member.silent == others);
+        }
+        assert!(nobody > 2_000 && everybody > 2_000);
+        assert!(nobody + everybody < 10_000);
+    }
+
+    #[test]
+    fn every_byte_of_a_state_is_changed() {
+        let mut changed = [0; STATE_BYTES];
+        for (member, state) in states() {
+            let bytes = member.to_bytes();
+            for (place, count) in changed.iter_mut().enumerate() {
+                *count += usize::from(bytes[place] != state[place]);
+            }
+        }
+        assert!(changed.iter().all(|count| *count > 500), "{changed:?}");
+    }
+
+    /// The one process that is taken into the set or out of it is often the member itself, process n, the one above it,
+    /// or the last one that a set can name.
+    #[test]
+    fn one_process_of_a_set_is_changed() {
+        let mut changed = [0; 4];
+        for (member, state) in states() {
+            let Member { n, own, .. } = member;
+            let set = Member::from_bytes(state).silent;
+            let turns = [own, n, (n + 1).min(LARGEST), LARGEST];
+            for (count, process) in changed.iter_mut().zip(turns) {
+                let only_that = member.silent ^ set == bit(process);
+                *count += usize::from(only_that);
+            }
+        }
+        assert!(changed.iter().all(|count| *count > 1_000), "{changed:?}");
+    }
 }

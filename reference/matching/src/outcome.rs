@@ -3,6 +3,7 @@
 use std::collections::BTreeSet;
 use std::thread;
 
+use reference::silent::Settings;
 use reference::so_far::Equalities;
 
 /// How many differences are kept in full.
@@ -28,12 +29,15 @@ pub struct Outcome {
     pub compared: u64,
     /// How many of them differ.
     pub differ: u64,
-    /// How many finished runs were held against demand 3, the rule of the first decider and that of the crashes so far.
+    /// How many finished runs were held against demand 3 and the rules of the first decider, of the crashes so far and
+    /// of the silent processes.
     pub demands: u64,
     /// How many of them break one of these.
     pub broken: u64,
     /// How often they meet the number of crashes so far with equality.
     pub equalities: Equalities,
+    /// How often their rows set the silent processes.
+    pub settings: Settings,
     /// The first differences in full, each with the number of its case.
     pub differences: Vec<(u64, String)>,
     /// How often each refusal number was met.
@@ -75,7 +79,7 @@ impl Outcome {
         }
     }
 
-    /// Counts one run held against demand 3 and the two rules, and keeps its words if it breaks one of these.
+    /// Counts one run held against demand 3 and the three rules, and keeps its words if it breaks one of these.
     pub fn demand(&mut self, case: u64, holds: bool, words: impl FnOnce() -> String) {
         self.demands += 1;
         if !holds {
@@ -97,6 +101,7 @@ impl Outcome {
         self.demands += other.demands;
         self.broken += other.broken;
         self.equalities += other.equalities;
+        self.settings += other.settings;
         for (met, more) in self.met.iter_mut().zip(other.met) {
             *met += more;
         }

@@ -13,16 +13,18 @@ use crate::limits::{self, Cut, Refuse, UpTo, CUTS, REFUSED};
 use crate::members::{self, Machine};
 use crate::outcome::{share, Outcome};
 use crate::random::Random;
+use crate::silent::{self, HighestFirst, IN_ANY_STATE, IN_RUNS, TAKEN};
 use crate::summary::{spelled, Summary};
 use crate::tables::{self, by_reference, Simulate};
 use crate::texts::{self, Program};
-use crate::whole::{check_lengths, check_sizes, check_small_count, check_small_equalities};
-use crate::wrong::{self, Change, Hear, Wrong, COUNTS, CRASHES, ENDS, FIRSTS, RIGHT, TURNS};
+use crate::whole::{check_lengths, check_sizes};
+use crate::whole::{check_small_count, check_small_equalities, check_small_settings};
+use crate::wrong::{self, Change, Hear, Take, Wrong, COUNTS, CRASHES, ENDS, FIRSTS, RIGHT, TURNS};
 use crate::wrong::{LOOSE, RULES};
-use crate::{demands, generate, small};
+use crate::{demands, generate, runs, small};
 
-/// The seed and the counts of the self-test. Every size comes up among the finished runs, every second one among the
-/// valid texts, and every length of a table with every kind of count of crashes.
+/// The seed and the counts of the self-test. Every size comes up among the finished runs and those of members, every
+/// second one among the valid texts, and every length of a table with every kind of count of crashes.
 const SEED: u64 = 1;
 const SIZES: u64 = generate::SIZES_COUNT as u64;
 const VALID: u64 = SIZES / 2;
@@ -107,6 +109,7 @@ pub fn controls() -> Vec<Plant> {
         called(NAME, &by_reference),
         counted(NAME, &crashes::by_reference),
         machine(NAME, &RIGHT),
+        in_run(NAME, &RIGHT),
     ]
 }
 
@@ -120,24 +123,30 @@ pub fn plants() -> Vec<Plant> {
     plants.extend(in_promises());
     plants.extend(in_rounds_by_crashes());
     plants.extend(in_members());
+    plants.extend(in_silent_sets());
+    plants.extend(in_silent_promises());
     plants.extend(in_limits());
     plants
 }
 
-/// Faults other than differences: a refusal number that is never met, a schedule left out, a size left out, a length
-/// left out, and rules of the crashes so far that no run breaks.
+/// Faults other than differences: a refusal number that is never met, a schedule left out, a row left out that sets the
+/// silent processes, a size left out, a length left out, and rules of the crashes so far that no run breaks.
 pub fn faults() -> Vec<Plant> {
     let right = |text: &[u8]| Ok(answer(text));
     let few = texts::compare_damaged(SEED, 3, &right);
     let mut left_out = every_nth("schedules left out", &by_reference);
     check_small_count(&mut left_out.summary, &left_out.outcome);
+    let mut fewer_rows = every_nth("rows that set the silent left out", &by_reference);
+    check_small_settings(&mut fewer_rows.summary, &fewer_rows.outcome);
     let too_few = CRASH_COUNTS / 2 - crashes::KINDS.len() as u64;
     let short = counted_times("one length left out", too_few, &crashes::by_reference);
     let name = "refusal numbers never met";
     let mut faults = vec![
         Plant::new("damaged texts", name, few, &texts::NUMBERS),
         left_out,
+        fewer_rows,
         sized("one size left out", SIZES - 1, &right),
+        in_run_times("one size left out", SIZES - 1, &RIGHT),
         short,
     ];
     let loose = LOOSE.into_iter();
@@ -154,6 +163,7 @@ fn turns() -> Vec<Plant> {
             every_nth(name, &wrong::simulate_by(hear, unchanged)),
             called(name, &wrong::simulate_by(hear, unchanged)),
             machine(name, &machine_with_turn),
+            in_run(name, &machine_with_turn),
         ]
     };
     TURNS.into_iter().flat_map(of_turn).collect()
@@ -291,6 +301,47 @@ fn in_members() -> Vec<Plant> {
     ]
 }
 
+/// The wrong sets of silent processes that document 02's K7 invites.
+fn in_silent_sets() -> Vec<Plant> {
+    let mut plants = Vec::new();
+    plants.extend(IN_RUNS.into_iter().flat_map(set_in_runs));
+    plants.extend(IN_ANY_STATE.into_iter().map(set_in_any_state));
+    plants.extend(TAKEN.into_iter().map(set_in_range));
+    let full = "everybody else in the set at opening";
+    let opened = silent::all_others;
+    let turned = "the set's bytes highest first";
+    let refused = silent::emptied;
+    plants.extend([
+        machine(full, &Wrong { opened, ..RIGHT }),
+        in_run(full, &Wrong { opened, ..RIGHT }),
+        machine(turned, &HighestFirst),
+        in_run(turned, &HighestFirst),
+        machine("a set emptied on refusal 17", &Wrong { refused, ..RIGHT }),
+    ]);
+    plants
+}
+
+fn set_in_runs((name, hear): (&'static str, Hear)) -> [Plant; 2] {
+    let wrong = Wrong { hear, ..RIGHT };
+    [machine(name, &wrong), in_run(name, &wrong)]
+}
+
+fn set_in_any_state((name, hear): (&'static str, Hear)) -> Plant {
+    machine(name, &Wrong { hear, ..RIGHT })
+}
+
+fn set_in_range((name, taken): (&'static str, Take)) -> Plant {
+    machine(name, &Wrong { taken, ..RIGHT })
+}
+
+/// Those of the wrong sets that break what holds of them in a run: the rows that should set it and don't, and the sets
+/// of wrong processes.
+fn in_silent_promises() -> Vec<Plant> {
+    let of_way = |(name, hear): (&'static str, Hear)| promised(name, hear, unchanged);
+    let ways = IN_RUNS.into_iter().skip(silent::SHOULD_SET);
+    ways.map(of_way).collect()
+}
+
 /// The wrong limits, and sets and numbers that are too narrow, that document 02's K11 invites.
 fn in_limits() -> Vec<Plant> {
     let mut plants = Vec::new();
@@ -404,8 +455,20 @@ fn machine(name: &'static str, machine: &dyn Machine) -> Plant {
     Plant::new("calls to a member", name, outcome, &members::NUMBERS)
 }
 
-/// Demand 3, the rule of the first decider and that of the crashes so far on runs that hear by a way and are changed at
-/// their end.
+fn in_run(name: &'static str, machine: &dyn Machine) -> Plant {
+    in_run_times(name, SIZES, machine)
+}
+
+/// The same over so many runs, which have to be of all sizes.
+fn in_run_times(name: &'static str, count: u64, machine: &dyn Machine) -> Plant {
+    let outcome = runs::compare(SEED, count, machine);
+    let mut plant = Plant::new("members in runs", name, outcome, &[]);
+    check_sizes(&mut plant.summary, plant.part, &plant.outcome);
+    plant
+}
+
+/// Demand 3 and the rules of the first decider, of the crashes so far and of the silent processes on runs that hear by
+/// a way and are changed at their end.
 fn promised(name: &'static str, hear: Hear, change: Change) -> Plant {
     finished(name, &RULE, hear, change)
 }
@@ -420,16 +483,18 @@ fn finished(name: &'static str, rule: &Rule, hear: Hear, change: Change) -> Plan
     let outcome = share(SIZES, 0, |outcome, case| {
         let mut random = Random::of_case(SEED, 0, case);
         let (_, schedule) = generate::of_case(&mut random, &sizes, case);
-        let run = wrong::changed_run(&schedule, hear, change);
-        demands::check_by(rule, outcome, case, &schedule, &run);
+        let (run, hearings) = wrong::changed_run_heard(&schedule, hear, change);
+        demands::check_by(rule, outcome, case, &schedule, &run, &hearings);
     });
     Plant::new("finished runs", name, outcome, &[])
 }
 
-/// The same rule on the right runs of all schedules with n = 4 and t = 3, and how often they meet it with equality.
+/// The same rule on the right runs of all schedules with n = 4 and t = 3, and how often they meet it with equality, and
+/// set the silent processes.
 fn met_with_equality(name: &'static str, rule: &Rule) -> Plant {
     let mut plant = Plant::new("all of n = 4, t = 3", name, small::hold(rule), &[]);
     check_small_equalities(&mut plant.summary, &plant.outcome);
+    check_small_settings(&mut plant.summary, &plant.outcome);
     plant
 }
 
@@ -559,7 +624,8 @@ mod tests {
         }
     }
 
-    /// Of several things that a run breaks the first is told: demand 3, the first decider, the crashes so far.
+    /// Of several things that a run breaks the first is told: demand 3, the first decider, the crashes so far, the
+    /// silent processes.
     #[test]
     fn finished_runs_break_what_is_planted() {
         let found = |plant: &Plant, start: &str| {
@@ -591,6 +657,9 @@ mod tests {
         for plant in in_rounds_by_crashes() {
             found(&plant, "crashes so far: ");
         }
+        for plant in in_silent_promises() {
+            found(&plant, "silent processes: ");
+        }
     }
 
     /// So demand 3 and the rule of the first decider would let them pass.
@@ -600,6 +669,19 @@ mod tests {
             for (_, words) in &plant.outcome.differences {
                 assert!(words.starts_with("crashes so far: "), "{words}");
             }
+        }
+    }
+
+    /// Those that should set it and don't, or name wrong processes, break what holds of a run. The others, in which a
+    /// row should leave the set, are found by the states alone. Few runs are enough but for the last one, which needs
+    /// process 64.
+    #[test]
+    fn states_of_a_wrong_machine_break_what_is_promised() {
+        let ways = IN_RUNS.into_iter().take(IN_RUNS.len() - 1);
+        for (place, (name, hear)) in ways.enumerate() {
+            let plant = in_run_times(name, SIZES / 16, &Wrong { hear, ..RIGHT });
+            let broken = plant.outcome.broken != 0;
+            assert_eq!(broken, place >= silent::SHOULD_SET, "{name}");
         }
     }
 

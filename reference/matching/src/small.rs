@@ -1,8 +1,9 @@
 //! Every accepted schedule with n = 4 and t = 3.
 
 use reference::questions::Refusal;
-use reference::run::run;
+use reference::run::run_heard;
 use reference::schedule::Schedule;
+use reference::silent::Settings;
 use reference::so_far::{Equalities, Rule};
 use reference::Set;
 
@@ -40,6 +41,47 @@ pub const EQUALITIES: Equalities = Equalities {
     in_t: 19_328,
 };
 
+/// How many of their rows set the silent processes, all together, and how often the set names a process that crashes in
+/// the round of such a row, and how often it doesn't.
+///
+/// They are also worked by hand, from documents 01 and 02. The numbers in brackets are the rows, then the processes
+/// that crash in the round: named, not named.
+///
+/// In round 2 whoever completes it sets the set. It survives, and the others do anything, 33^3 ways; or it crashes in
+/// round 3 or 4, 16 ways, and not all others crash, 33^3 - 32^3. So 4 * (35937 + 16 * 3169) = 346564 rows. Another one
+/// crashes in round 2 in 12 * 8 * (33^2 + 16 * (33^2 - 32^2)) = 204384 of them, and half of its reaches name the
+/// hearer. All this for each of 16 votes: 16 * (346564; 102192, 102192).
+///
+/// In round 3 those set it that complete round 2 undecided and hear no decided message. All votes are 1, or nobody is
+/// undecided. First let nobody decide in round 2. If three complete it, each of them sets the set in
+/// 17^2 + 8 * (17^2 - 16^2) = 553 ways, and each of the two others crashes in round 3 in 8 * (17 + 8) = 200 of them, so
+/// (1659; 600, 600) for the three. If two complete it, these are 17 + 8 = 25 ways, and 8 of them, so (50; 8, 8) for the
+/// two. One that decides in round 2 goes unheard only if it crashes in round 3 and its reach leaves the hearer out, 4
+/// ways; then the set names it. By how many crash in rounds 1 and 2:
+///
+/// - 1, 0: nobody decides, but for the empty reach: 4 * 7 * (1659; 600, 600) = (46452; 16800, 16800);
+/// - 0, 1: those decide that the reach names. Nobody: (1659; 600, 600). One, in 3 reaches with 2 hearers each: 4 * 25
+///   rows that name it, and the third one crashes in round 3 in 4 * 8 of them, so 6 * (100; 100 + 16, 16). Two, in 3
+///   reaches with a hearer each: 4 * 4 rows that name both, so 3 * (16; 32, 0). With 4 processes to crash these are
+///   4 * (2307; 1392, 696) = (9228; 5568, 2784);
+/// - 2, 0: nobody decides in 28 of 64 pairs of reaches, and both do in the others: 6 * 28 * (50; 8, 8) =
+///   (8400; 1344, 1344);
+/// - 1, 1: nobody decides in 6 * 8 + 2 of 64 pairs of reaches. In 4 all estimates are 0 but that of the second crash,
+///   which comes to one of the two alone, and the other one decides: (4; 4, 0). So 12 * (2516; 416, 400) =
+///   (30192; 4992, 4800);
+/// - 0, 2: nobody decides in 36 of 64 pairs of reaches, and one of the two in 24: 6 * (1896; 384, 288) =
+///   (11376; 2304, 1728);
+/// - three in all: the one that is left completes round 2 undecided, by the sums for t above, in
+///   4 * (448 + 1104 + 528 + 64) ways: (8576; 0, 0).
+///
+/// So (114224; 31008, 27456). In round 4 those set it that complete round 3 undecided, and hear nobody else:
+/// (19328; 0, 0).
+pub const SETTINGS: Settings = Settings {
+    rows: 5_678_576,
+    named: 1_666_080,
+    not_named: 1_662_528,
+};
+
 const N: usize = 4;
 const T: usize = 3;
 
@@ -57,8 +99,8 @@ pub fn compare(step: usize, simulate: Simulate) -> Outcome {
 /// rule of the crashes so far.
 pub fn hold(rule: &Rule) -> Outcome {
     share_schedules(1, |outcome, case, schedule| {
-        let run = run(schedule).expect("the schedule is accepted");
-        demands::check_by(rule, outcome, case, schedule, &run);
+        let (run, hearings) = run_heard(schedule).expect("the schedule is accepted");
+        demands::check_by(rule, outcome, case, schedule, &run, &hearings);
     })
 }
 
@@ -123,8 +165,8 @@ fn for_each_from(
 }
 
 fn compare_one(outcome: &mut Outcome, case: u64, schedule: &Schedule, simulate: Simulate) {
-    let run = run(schedule).expect("the schedule is accepted");
-    demands::check(outcome, case, schedule, &run);
+    let (run, hearings) = run_heard(schedule).expect("the schedule is accepted");
+    demands::check(outcome, case, schedule, &run, &hearings);
     outcome.count(0, None);
     let call = Call {
         schedule: schedule.clone(),

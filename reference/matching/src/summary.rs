@@ -1,5 +1,6 @@
 //! The sum of all parts and the exit code.
 
+use reference::silent::Settings;
 use reference::so_far::Equalities;
 use reference::LONGEST;
 
@@ -39,8 +40,8 @@ impl Summary {
         u8::from(!(done && right))
     }
 
-    /// The last lines: the faults, demand 3 with the first decider and the crashes so far, and one line over
-    /// everything. A run that breaks one of the three counts as a difference there.
+    /// The last lines: the faults, demand 3 with the three rules, and one line over everything. A run that breaks one
+    /// of the four counts as a difference there.
     pub fn print(&self) {
         for fault in &self.faults {
             println!("FAULT {fault}");
@@ -72,6 +73,7 @@ pub fn print_part(heading: &str, names: &[&str], outcome: &Outcome, numbers: &[u
     if outcome.demands != 0 {
         println!("  {}", demand_words(outcome.demands, outcome.broken));
         println!("  {}", equality_words(outcome.equalities));
+        println!("  {}", setting_words(outcome.settings));
     }
     println!(
         "  answers: {} equal, {} different",
@@ -97,17 +99,24 @@ fn with_commas(number: usize) -> String {
     }
 }
 
-/// How many runs were held against demand 3, the rule of the first decider and that of the crashes so far, and how many
-/// break one of these.
+/// How many runs were held against demand 3 and the rules of the first decider, of the crashes so far and of the silent
+/// processes, and how many break one of these.
 fn demand_words(demands: u64, broken: u64) -> String {
     format!(
-        "demand 3, the first decider and the crashes so far: held against {demands} runs, broken by {broken}"
+        "demand 3, the first decider, the crashes so far and the silent processes: held against {demands} runs, \
+         broken by {broken}"
     )
 }
 
 /// How often the number of crashes so far is met with equality: by how many processes of a run in a round.
 pub fn equality_words(Equalities { before_t, in_t }: Equalities) -> String {
     format!("crashes so far: met with equality by {before_t} processes before round t, by {in_t} in round t")
+}
+
+/// How many rows set the silent processes, and how many of those that crash in the round of such a row are named.
+pub fn setting_words(settings: Settings) -> String {
+    let (rows, named, not_named) = (settings.rows, settings.named, settings.not_named);
+    format!("silent processes: set by {rows} rows; of those crashing in the round {named} named, {not_named} not")
 }
 
 /// The counts of a kind in words.

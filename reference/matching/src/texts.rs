@@ -1,7 +1,7 @@
 //! Texts through a program and through the reference, byte for byte.
 
 use reference::report::{refusal, report};
-use reference::run::run;
+use reference::run::run_heard;
 use reference::text::{read, write};
 
 use crate::damage::{damaged, DAMAGES};
@@ -60,8 +60,9 @@ fn compare(
     let (expected, number) = match read(text) {
         Err(refused) => (refusal(text, refused), Some(refused.refusal.number())),
         Ok(schedule) => {
-            let run = run(&schedule).expect("the reader asks every question of a run");
-            demands::check(outcome, case, &schedule, &run);
+            let heard = run_heard(&schedule);
+            let (run, hearings) = heard.expect("the reader asks every question of a run");
+            demands::check(outcome, case, &schedule, &run, &hearings);
             outcome.sizes.insert((schedule.n, schedule.t));
             (report(&schedule, &run), None)
         }

@@ -5,8 +5,8 @@ use std::path::Path;
 use crate::arguments::Arguments;
 use crate::outcome::Outcome;
 use crate::proved::{count_crashes, simulate, Proved};
-use crate::summary::{equality_words, print_part, Summary};
-use crate::{crashes, damage, generate, members, program, small, tables, texts};
+use crate::summary::{equality_words, print_part, setting_words, Summary};
+use crate::{crashes, damage, generate, members, program, runs, small, tables, texts};
 
 /// Does everything that the arguments ask for, prints what is found, and gives the sum.
 pub fn run(arguments: &Arguments) -> Summary {
@@ -28,6 +28,7 @@ pub fn run(arguments: &Arguments) -> Summary {
         match_tables(&mut summary, *seed, arguments.tables);
         match_counts(&mut summary, *seed, arguments.counts);
         match_members(&mut summary, *seed, arguments.members);
+        match_runs(&mut summary, *seed, arguments.runs);
     }
     summary
 }
@@ -88,6 +89,7 @@ fn match_small(summary: &mut Summary) {
     add(summary, heading, &[], &outcome, &[]);
     check_small_count(summary, &outcome);
     check_small_equalities(summary, &outcome);
+    check_small_settings(summary, &outcome);
 }
 
 /// The schedules with n = 4 and t = 3 have to be all that there are.
@@ -106,6 +108,18 @@ pub fn check_small_equalities(summary: &mut Summary, outcome: &Outcome) {
     if outcome.equalities != small::EQUALITIES {
         let expected = equality_words(small::EQUALITIES);
         let found = equality_words(outcome.equalities);
+        summary.fault(format!(
+            "n = 4, t = 3: {found}; not as expected: {expected}"
+        ));
+    }
+}
+
+/// The rows of the schedules with n = 4 and t = 3 have to set the silent processes as often as they do, and to name
+/// those that crash in the round of a row as often. The runs alone would not show a rule that looks at fewer rows.
+pub fn check_small_settings(summary: &mut Summary, outcome: &Outcome) {
+    if outcome.settings != small::SETTINGS {
+        let expected = setting_words(small::SETTINGS);
+        let found = setting_words(outcome.settings);
         summary.fault(format!(
             "n = 4, t = 3: {found}; not as expected: {expected}"
         ));
@@ -149,5 +163,15 @@ fn match_members(summary: &mut Summary, seed: u64, count: u64) {
         let names = names(&members::KINDS);
         add(summary, &heading, &names, &outcome, &members::NUMBERS);
         check_sizes(summary, "calls to a member", &outcome);
+    }
+}
+
+fn match_runs(summary: &mut Summary, seed: u64, count: u64) {
+    if asked("members in runs", count) {
+        let outcome = runs::compare(seed, count, &Proved);
+        let heading = format!("members in runs, seed {seed}, {}", sizes_met(&outcome));
+        let names = names(&generate::FAMILIES);
+        add(summary, &heading, &names, &outcome, &[]);
+        check_sizes(summary, "members in runs", &outcome);
     }
 }

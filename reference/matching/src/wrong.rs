@@ -6,11 +6,11 @@ use reference::crashes::{count_crashes, CrashCount};
 use reference::member::{Member, DECIDED_0, DECIDED_1, ESTIMATE_0, ESTIMATE_1, NOTHING};
 use reference::questions::Refusal;
 use reference::report::{answer, refusal, report};
-use reference::run::{play, Counts, Run};
+use reference::run::{play, play_heard, Counts, Hearing, Run};
 use reference::schedule::{everyone, Schedule};
 use reference::so_far::{crashes_by, Rule, RULE};
 use reference::text::{line, read, Refused};
-use reference::{LARGEST, LONGEST};
+use reference::{Set, LARGEST, LONGEST};
 
 use crate::members::{ByReference, Machine, State};
 use crate::tables::by_reference;
@@ -137,6 +137,13 @@ pub fn changed_run(schedule: &Schedule, hear: Hear, change: Change) -> Run {
     let mut run = play(schedule, hear);
     change(schedule, &mut run);
     run
+}
+
+/// The same with its hearings.
+pub fn changed_run_heard(schedule: &Schedule, hear: Hear, change: Change) -> (Run, Vec<Hearing>) {
+    let (mut run, hearings) = play_heard(schedule, hear);
+    change(schedule, &mut run);
+    (run, hearings)
 }
 
 /// The messages are off by one when as many crash as may.
@@ -641,12 +648,19 @@ pub fn sizes_as_bytes(
     by_reference(&schedule, decisions, rounds)
 }
 
+/// A way of taking a state.
+pub type Take = fn(Member) -> Option<Member>;
+
 /// A machine that is right but for the ways given.
 pub struct Wrong {
     /// What hearing does.
     pub hear: Hear,
     /// The own number that is opened for the one given.
     pub own: fn(usize, usize) -> usize,
+    /// The set of an opened member.
+    pub opened: fn(&Member) -> Set,
+    /// The state that is taken for the one given, none if that one is refused with 11.
+    pub taken: Take,
     /// The change of what a right saying gives.
     pub said: fn(Result<u8, u8>) -> Result<u8, u8>,
     /// The change of the state and the number of a refused hearing.
@@ -657,24 +671,38 @@ pub struct Wrong {
 pub const RIGHT: Wrong = Wrong {
     hear: Member::after,
     own: |own, _| own,
+    opened: |_| 0,
+    taken: Some,
     said: |said| said,
     refused: |_, _, number| number,
 };
 
+impl Wrong {
+    /// The state that is taken for the one given.
+    fn taken(&self, state: &State) -> Result<Member, u8> {
+        let taken = (self.taken)(Member::from_bytes(*state));
+        taken.ok_or(Refusal::State.number())
+    }
+}
+
 impl Machine for Wrong {
     fn open(&self, n: usize, t: usize, own: usize, vote: u8) -> Result<State, u8> {
-        ByReference.open(n, t, (self.own)(own, n), vote)
+        let opened = Member::open(n, t, (self.own)(own, n), vote);
+        let mut member = opened.map_err(Refusal::number)?;
+        member.silent = (self.opened)(&member);
+        Ok(member.to_bytes())
     }
 
     fn say(&self, state: &State) -> Result<u8, u8> {
-        (self.said)(ByReference.say(state))
+        let taken = self.taken(state)?.to_bytes();
+        (self.said)(ByReference.say(&taken))
     }
 
     fn hear(&self, state: &mut State, row: &[u8]) -> Result<(), u8> {
-        let before = Member::from_bytes(*state);
-        match ByReference.hear(state, row) {
-            Err(number) => Err((self.refused)(state, row, number)),
-            Ok(()) => {
+        let before = self.taken(state)?;
+        match before.hear(row) {
+            Err(refusal) => Err((self.refused)(state, row, refusal.number())),
+            Ok(_) => {
                 *state = (self.hear)(&before, row).to_bytes();
                 Ok(())
             }
@@ -709,7 +737,6 @@ pub fn both_first(_: &mut State, row: &[u8], number: u8) -> u8 {
 #[cfg(test)]
 mod tests {
     use super::*;
-    use reference::Set;
 
     /// A crash: the process, its crash round, and its reach.
     type Crash = (usize, u8, Set);

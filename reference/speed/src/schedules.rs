@@ -1,12 +1,10 @@
 //! The schedules and rows that are measured.
 
-use std::cell::RefCell;
-
 use matching::generate::FAMILIES;
 use matching::members::State;
 use matching::random::Random;
 use reference::member::Member;
-use reference::run::play;
+use reference::run::run_heard;
 use reference::schedule::Schedule;
 
 /// How many schedules there are of each size.
@@ -23,7 +21,7 @@ pub fn spread(n: usize) -> Vec<Schedule> {
     (0..COUNT).map(of_case).collect()
 }
 
-/// A member that is about to hear a row, as the reference has it and as the six bytes of its state, and the row.
+/// A member that is about to hear a row, as the reference has it and as the bytes of its state, and the row.
 pub struct Hearing {
     pub member: Member,
     pub state: State,
@@ -32,18 +30,14 @@ pub struct Hearing {
 
 /// Every hearing in the runs of these schedules.
 pub fn hearings(schedules: &[Schedule]) -> Vec<Hearing> {
-    let hearings = RefCell::new(Vec::new());
+    let mut hearings = Vec::new();
     for schedule in schedules {
-        play(schedule, |member, row| {
-            hearings.borrow_mut().push(Hearing {
-                member: *member,
-                state: member.to_bytes(),
-                row: row.to_vec(),
-            });
-            member
-                .hear(row)
-                .expect("a member of a bench run refuses no row")
-        });
+        let (_, heard) = run_heard(schedule).expect("the schedule is accepted");
+        hearings.extend(heard.into_iter().map(|hearing| Hearing {
+            member: hearing.before,
+            state: hearing.before.to_bytes(),
+            row: hearing.row,
+        }));
     }
-    hearings.into_inner()
+    hearings
 }

@@ -4,6 +4,7 @@ use std::hint::black_box;
 use std::iter::successors;
 
 use fcwfa::bytes;
+use matching::members::State;
 use matching::proved;
 use matching::tables::{by_reference, Simulate};
 use reference::questions::SIZES;
@@ -73,23 +74,26 @@ pub fn by_crashes_borne() {
     }
 }
 
-/// The member's `hear`, on every row that is heard in the runs of a part of those schedules.
+/// The member's `hear`, on every row that is heard in the runs of a part of those schedules. The states stand in a table of their own, where the
+/// member changes them: a state copied just before its call, or looked at just after it, would be timed with the copy.
 pub fn by_row() {
     println!();
     println!("a row heard by a member (ns)");
     println!("   n   proved  reference  reference/proved     rows");
     for n in sizes() {
         let hearings = hearings(&spread(n)[..256]);
+        let states: Vec<State> = hearings.iter().map(|hearing| hearing.state).collect();
+        let mut lent = states.clone();
         let [proved, reference] = fastest(
             hearings.len(),
             [
                 &mut || {
-                    for hearing in &hearings {
-                        let mut state = hearing.state;
-                        let heard = bytes::hear(&mut state, black_box(&hearing.row));
+                    lent.copy_from_slice(&states);
+                    for (hearing, state) in hearings.iter().zip(&mut lent) {
+                        let heard = bytes::hear(state, black_box(&hearing.row));
                         black_box(heard).expect("a row that is heard");
-                        black_box(state);
                     }
+                    black_box(&lent);
                 },
                 &mut || {
                     for hearing in &hearings {

@@ -32,9 +32,10 @@ play-requires c κs =
 
 returns-2 : tie.Need-returns-2
 returns-2 c =
-    let a = c .before .before .before .before .before .before .before .before .args in
+    let a = c .before .before .before .before .before .before .before .args in
     let s = scheduleOf (a .n) (a .t) (now (a .votes)) (now (a .crashes)) (now (a .reaches)) in
-    accepted-leaves fcwfa s _ (min (a .last) (a .t + 1)) (c .before .before .before .before .question .ensures) (c .before .before .before .if1 .left) (c .before .before .end-round .ensures) (c .before .play .ensures)
+    let played = c .play .ensures in
+    accepted-leaves fcwfa s _ (min (a .last) (a .t + 1)) (c .before .before .before .question .ensures) (c .before .before .if1 .left) _ (c .before .end-round .ensures) (played .0) (played .1)
 
 pub play-rounds-spec : {M : Type 1} → statement M
 play-rounds-spec =

@@ -99,7 +99,7 @@ returns c =
     let room = at .inv .room in
     let delivered = c .before .before .deliver .ensures .0 (omega arith) in
     let sent = sent-in calls s (ok .n-high) (at .played) (at .codes) (at .inv .playing .states) (at .inv .said) delivered in
-    ends-silent fcwfa s (ok .n-high) (promises .own-answers) (c .before .before .before .before .before .before .before .before .before .before .before .before .before .before .pre .1 .0) (at .inv .playing) (promises .silence) (omega arith) (sym sent ∙ c .if1 .taken)
+    (ends-silent fcwfa s (ok .n-high) (promises .own-answers) (c .before .before .before .before .before .before .before .before .before .before .before .before .before .before .pre .1 .0) (at .inv .playing) (promises .silence) (omega arith) (sym sent ∙ c .if1 .taken), refl)
 
 slice-aggregate-hear-rows : tie.Need-slice-aggregate-hear-rows Inv-loop μ-loop
 slice-aggregate-hear-rows c =
@@ -167,7 +167,7 @@ returns-2 c =
     let s = scheduleOf (a .n) (a .t) (now (a .votes)) (now (a .crashes)) (now (a .reaches)) in
     let ok = question-accepted s largest true (c .before .before .before .before .before .before .before .before .before .pre .0) in
     let promises = accepted-run s largest true (c .before .before .before .before .before .before .before .before .before .pre .0) in
-    ends-last fcwfa s (ok .n-high) (promises .own-answers) (c .before .before .before .before .before .before .before .before .before .pre .1 .0) (c .before .loop .inv .playing) (c .loop-test .left)
+    (ends-last fcwfa s (ok .n-high) (promises .own-answers) (c .before .before .before .before .before .before .before .before .before .pre .1 .0) (c .before .loop .inv .playing) (c .loop-test .left), refl)
 
 pub play-on-spec : {M : Type 1} → statement M
 play-on-spec =
