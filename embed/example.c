@@ -1,9 +1,10 @@
 /*
  * Three uses of the library. First a cluster of four members in one process:
  * they commit; with one vote for abort they abort; and they abort where one of
- * them crashes in round 1. Then the simulator on the same crash, and on a
- * schedule that is refused. Then the crashes of a table, counted up to the one
- * that is too many. Compiles as C11 and as C++.
+ * them crashes in round 1. Each shows whom its state has as silent. Then the
+ * simulator on the same crash, and on a schedule that is refused. Then the
+ * crashes of a table, counted up to the one that is too many. Compiles as C11
+ * and as C++.
  */
 #include <assert.h>
 #include <stdio.h>
@@ -16,11 +17,37 @@
 
 static_assert(N <= FCWFA_LARGEST_N, "the cluster is not too large");
 static_assert(FCWFA_LARGEST_N <= 8 * sizeof(fcwfa_set), "a set has a bit for each process");
+static_assert(FCWFA_STATE_SILENT + sizeof(fcwfa_set) == FCWFA_STATE_BYTES, "a state ends with a set");
 
 /* The set of process i alone. */
 static fcwfa_set only(int i)
 {
     return (fcwfa_set)1 << (i - 1);
+}
+
+/* The silent set of a state, whose lowest byte is the first, put together byte by byte. */
+static fcwfa_set silent(const uint8_t state[FCWFA_STATE_BYTES])
+{
+    fcwfa_set set = 0;
+
+    for (int i = FCWFA_STATE_BYTES - 1; i >= FCWFA_STATE_SILENT; i--)
+        set = set << 8 | state[i];
+    return set;
+}
+
+/* Prints the numbers of the processes of a set as {1, 4}. */
+static void print_set(fcwfa_set set)
+{
+    const char *before = "";
+
+    putchar('{');
+    for (int i = 1; i <= FCWFA_LARGEST_N; i++) {
+        if ((set & only(i)) != 0) {
+            printf("%s%d", before, i);
+            before = ", ";
+        }
+    }
+    putchar('}');
 }
 
 /* What every member says in the round to come. */
@@ -74,10 +101,13 @@ static int play(const uint8_t votes[N], int crashed, fcwfa_set reach)
     }
     for (int i = 0; i < N; i++) {
         if (i + 1 == crashed)
-            printf("member %d makes no decision\n", i + 1);
+            printf("member %d makes no decision", i + 1);
         else
-            printf("member %d decides %d in round %d\n", i + 1,
+            printf("member %d decides %d in round %d", i + 1,
                    states[i][FCWFA_STATE_ESTIMATE], states[i][FCWFA_STATE_DECIDED]);
+        fputs(", silent ", stdout);
+        print_set(silent(states[i]));
+        putchar('\n');
     }
     return 1;
 }

@@ -29,12 +29,13 @@ extern "C" {
 
 /*
  * The version of this interface, as the pkg-config file and the Rust crate have
- * it. It changes with what a program must know to call the library.
+ * it. It changes with what a program must know to call the library. Build with
+ * the header of the library that is linked: it says how much a call writes.
  */
 #define FCWFA_VERSION_MAJOR 0
-#define FCWFA_VERSION_MINOR 5
+#define FCWFA_VERSION_MINOR 6
 #define FCWFA_VERSION_PATCH 0
-#define FCWFA_VERSION "0.5.0"
+#define FCWFA_VERSION "0.6.0"
 
 /* The largest number of processes. */
 #define FCWFA_LARGEST_N 64
@@ -61,7 +62,7 @@ typedef uint64_t fcwfa_set;
 #define FCWFA_REFUSED_CRASHES 7
 /* The own number is not from 1 to n. */
 #define FCWFA_REFUSED_ID 10
-/* The six bytes are not a state in range. */
+/* The fourteen bytes are not a state in range. */
 #define FCWFA_REFUSED_STATE 11
 /* The member has stopped. */
 #define FCWFA_REFUSED_STOPPED 12
@@ -77,11 +78,12 @@ typedef uint64_t fcwfa_set;
 #define FCWFA_REFUSED_BOTH 17
 
 /*
- * A member's state is six bytes, one number in each, at these offsets; there is
- * nothing else to a member. They can be stored and sent as they are, for
- * inspection: a process that was down has crashed and must not go on from them.
+ * A member's state is fourteen bytes at these offsets: six numbers, one byte
+ * each, and a set of eight bytes. There is nothing else to a member. They can be
+ * stored and sent as they are, for inspection: a process that was down has
+ * crashed and must not go on from them.
  */
-#define FCWFA_STATE_BYTES 6
+#define FCWFA_STATE_BYTES 14
 /* The number of processes. */
 #define FCWFA_STATE_N 0
 /* The number of crashes to bear. */
@@ -94,6 +96,21 @@ typedef uint64_t fcwfa_set;
 #define FCWFA_STATE_ESTIMATE 4
 /* The round in which the member decided, 0 while it has not. */
 #define FCWFA_STATE_DECIDED 5
+/*
+ * The silent set, a fcwfa_set as eight bytes, lowest first: the processes that
+ * sent no estimate in the last row that set it. It is empty at opening. A row
+ * sets it if the member hears it while undecided, in round 2 or later, and no
+ * decided message stands in it, also if the member decides by this row. Every
+ * other row leaves the set as it was. So it is of a row, and not of now: see
+ * "The silent set" in README.md. In a state in range it names processes from 1
+ * to n only, and not the member itself.
+ *
+ * A state has no alignment, so do not read the set through a pointer to a
+ * fcwfa_set. Copy the eight bytes into one by memcpy, on a machine that has the
+ * lowest byte of a number first, as x86-64 has; or put them together one by one,
+ * as example.c does.
+ */
+#define FCWFA_STATE_SILENT 6
 
 /*
  * What a member says in a round, and what stands in a row for each sender. In a

@@ -25,11 +25,11 @@ module _ (row : List ℕ) where
   abbrev sentNone : ℕ → Bool
   sentNone j = not (isEstimate (getD row j 0))
 
-  pub silent-below : silentIn row < 2 ^ length row
-  silent-below = passing-below sentNone (length row)
-
   pub silent-names : (j : ℕ) → j < length row → names (silentIn row) j ≡ sentNone j
   silent-names = passing-named sentNone (length row)
+
+  pub silent-below : silentIn row < 2 ^ length row
+  silent-below = passing-below sentNone (length row)
 
   -- the estimates of a row, by its counts and one by one
   pub estimates-are : estimates (tallyOf row) ≡ count (length row) (λ j. isEstimate (getD row j 0))

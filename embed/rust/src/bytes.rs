@@ -12,7 +12,8 @@ use std::slice::from_raw_parts;
 
 use crate::{Code, Counts, CrashCount, Set, Vote};
 
-/// A member's state: n, t, own number, the round to play next, the estimate and the decided round, a byte each.
+/// A member's state: n, t, own number, the round to play next, the estimate and the decided round, a byte each, and the silent set, a
+/// [`Set`] as eight bytes, lowest first.
 pub type State = [u8; 14];
 
 /// The decision of a process that made none; its round is 0.
@@ -61,7 +62,7 @@ fn accepted<T>(number: u8, value: T) -> Result<T, u8> {
 /// 0 (abort) or 1 (commit). Refusals: 1, 2, 10, 4.
 pub fn open(n: usize, t: usize, id: usize, vote: u8) -> Result<State, u8> {
     let mut state = [0; 14];
-    // SAFETY: the pointer is good for the six bytes that the function writes.
+    // SAFETY: the pointer is good for the fourteen bytes that the function writes.
     let number = unsafe { foreign::fcwfa_open(n, t, id, vote, state.as_mut_ptr()) };
     accepted(number, state)
 }
@@ -69,7 +70,7 @@ pub fn open(n: usize, t: usize, id: usize, vote: u8) -> Result<State, u8> {
 /// The code that a member says in the round to come: 0 nothing, 1 or 2 the estimate 0 or 1, 3 or 4 decided 0 or 1. Refusal: 11.
 pub fn say(state: &State) -> Result<u8, u8> {
     let mut code = 0;
-    // SAFETY: the state's pointer is good for six bytes and the code's for one, and they do not overlap.
+    // SAFETY: the state's pointer is good for fourteen bytes and the code's for one, and they do not overlap.
     let number = unsafe { foreign::fcwfa_say(state.as_ptr(), &mut code) };
     accepted(number, code)
 }
@@ -77,7 +78,8 @@ pub fn say(state: &State) -> Result<u8, u8> {
 /// Hears the row of a round, a code for each process in order, the member's own included: see [`Member::hear`](crate::Member::hear).
 /// Refusals: 11 to 17.
 pub fn hear(state: &mut State, row: &[u8]) -> Result<(), u8> {
-    // SAFETY: the state's pointer is good for six bytes and the row's for its length; the state is lent by `&mut`, so they do not overlap.
+    // SAFETY: the state's pointer is good for fourteen bytes and the row's for its length; the state is lent by `&mut`, so they do not
+    // overlap.
     let number = unsafe { foreign::fcwfa_hear(state.as_mut_ptr(), row.as_ptr(), row.len()) };
     accepted(number, ())
 }

@@ -44,7 +44,8 @@
 //! round.
 //!
 //! **(c) A state on disk** ([`Member::to_bytes`], [`Member::from_bytes`]) is for inspection. Going on from it after a restart is outside of
-//! what is promised: that process has crashed. So is playing two copies of a member.
+//! what is promised: that process has crashed. So is playing two copies of a member. [`Member::silent`] says who was silent in the last row
+//! that set it, not who is down now.
 //!
 //! **(d) After a refusal** the member is as it was, and a decision that was made before stands. [`Refusal::State`] (the bytes are no state
 //! of a member), [`Refusal::Stopped`] (it needs no more rows), [`Refusal::RowLength`] and [`Refusal::OwnPlace`] (the row was put together
@@ -59,12 +60,14 @@
 pub mod bytes;
 mod crashes;
 mod member;
+mod processes;
 mod refusal;
 mod simulator;
 mod values;
 
 pub use crashes::{count_crashes, CrashCount};
 pub use member::Member;
+pub use processes::{ProcessNumbers, Processes};
 pub use refusal::Refusal;
 pub use simulator::{simulate, Counts, Report};
 pub use values::{Code, Decided, Decision, Vote};
@@ -72,7 +75,7 @@ pub use values::{Code, Decided, Decision, Vote};
 /// The largest number of processes.
 pub const LARGEST: usize = 64;
 
-/// A set of processes, such as a reach; bit j - 1 stands for process j.
+/// A set of processes as a number, such as a reach; bit j - 1 stands for process j. [`Processes`] tells whom it names.
 pub type Set = u64;
 
 // A set has a bit for each process.

@@ -27,7 +27,7 @@ pub enum Refusal {
     Crashes = 7,
     /// 10: the own number is not from 1 to n.
     Id = 10,
-    /// 11: the six bytes are not a state in range.
+    /// 11: the fourteen bytes are not a state in range.
     State = 11,
     /// 12: the member has stopped.
     Stopped = 12,
@@ -95,7 +95,7 @@ impl Refusal {
             }
             Refusal::Crashes => "more than t processes crash",
             Refusal::Id => "the own number is not from 1 to n",
-            Refusal::State => "the six bytes are not a state in range",
+            Refusal::State => "the fourteen bytes are not a state in range",
             Refusal::Stopped => "the member has stopped",
             Refusal::RowLength => "the row is not n long",
             Refusal::Code => "a code is above 4",

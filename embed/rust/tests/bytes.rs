@@ -11,7 +11,8 @@ fn members_commit() {
             assert_eq!(hear(state, &row), Ok(()));
         }
     }
-    assert_eq!(states, [1, 2, 3, 4].map(|id| [4, 3, id, 4, 1, 2]));
+    let due = |id| [4, 3, id, 4, 1, 2, 0, 0, 0, 0, 0, 0, 0, 0];
+    assert_eq!(states, [1, 2, 3, 4].map(due));
     assert!(states.iter().all(|state| say(state) == Ok(0)));
 }
 
@@ -31,7 +32,10 @@ fn a_refused_call_leaves_the_bytes_as_they_were() {
     assert_eq!(hear(&mut state, &[2, 1, 2, 2]), Err(15));
     assert_eq!(hear(&mut state, &[2, 2, 2, 5]), Err(14));
     assert_eq!(state, before);
-    for bytes in [[9; 6], [4, 3, 1, 200, 7, 9]] {
+    let (mut no_round, mut own_silent) = (before, before);
+    no_round[3] = 200;
+    own_silent[6] = 0b0010;
+    for bytes in [[9; 14], no_round, own_silent] {
         state = bytes;
         assert_eq!(say(&state), Err(11));
         assert_eq!(hear(&mut state, &[]), Err(11));

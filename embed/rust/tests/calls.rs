@@ -42,10 +42,12 @@ fn a_member_shows_what_it_is() {
     assert_eq!(member.hear(&row), Ok(()));
     assert_eq!((member.round(), member.estimate()), (2, Decision::Abort));
     assert_eq!((member.decision(), member.is_stopped()), (None, false));
+    assert!(member.silent().is_empty());
     row = [Code::EstimateAbort; 5];
     row[3] = Code::Nothing;
     assert_eq!(member.hear(&row), Ok(()));
     assert_eq!(member.decision(), decided(Decision::Abort, 2));
+    assert!(member.silent().iter().eq([4]));
     assert_eq!(member.say(), Code::DecidedAbort);
     row = [Code::DecidedAbort; 5];
     row[3] = Code::Nothing;

@@ -18,7 +18,7 @@ fn four() -> Vec<Member> {
 fn play(
     mut members: Vec<Member>,
     lost: fn(round: usize, from: usize, to: usize) -> bool,
-) -> Result<Vec<Option<Decided>>, Refusal> {
+) -> Result<Vec<Member>, Refusal> {
     while !members.iter().all(Member::is_stopped) {
         let said: Vec<Code> = members.iter().map(Member::say).collect();
         for member in members.iter_mut().filter(|member| !member.is_stopped()) {
@@ -28,7 +28,12 @@ fn play(
             member.hear(&row)?;
         }
     }
-    Ok(members.iter().map(Member::decision).collect())
+    Ok(members)
+}
+
+/// What each member decided.
+fn decisions(members: &[Member]) -> Vec<Option<Decided>> {
+    members.iter().map(Member::decision).collect()
 }
 
 /// The messages that are lost in the split.
@@ -42,18 +47,23 @@ fn split(round: usize, from: usize, to: usize) -> bool {
 
 /// A run outside of the contract: all vote to commit and nobody crashes, but messages are lost and nothing is put down for them. Members 3
 /// and 4 abort in round 2, members 1 and 2 commit in round 3, and no call is refused. The library cannot see it; the contract must rule it
-/// out.
+/// out. The silent sets then name processes that have not crashed.
 #[test]
 fn lost_messages_put_down_as_crashes_split_the_cluster() {
     let (commit, abort) = (decided(Decision::Commit, 3), decided(Decision::Abort, 2));
-    assert_eq!(play(four(), split), Ok(vec![commit, commit, abort, abort]));
+    let members = play(four(), split).unwrap();
+    assert_eq!(decisions(&members), [commit, commit, abort, abort]);
+    let silent: Vec<String> = members.iter().map(|m| m.silent().to_string()).collect();
+    assert_eq!(silent, ["{3, 4}", "{3, 4}", "{}", "{}"]);
 }
 
 /// The same members within the contract: every message arrives, and all commit in round 2.
 #[test]
 fn the_same_members_agree_if_every_message_arrives() {
     let commit = decided(Decision::Commit, 2);
-    assert_eq!(play(four(), |_, _, _| false), Ok(vec![commit; 4]));
+    let members = play(four(), |_, _, _| false).unwrap();
+    assert_eq!(decisions(&members), [commit; 4]);
+    assert!(members.iter().all(|member| member.silent().is_empty()));
 }
 
 /// A byte from the wire that is no code is refused, before it can stand in a row and by the call on bare bytes, which then changes nothing.

@@ -1,25 +1,33 @@
 //! The types against the numbers that they stand for.
 use std::collections::BTreeSet;
+use std::mem::size_of;
 
 use fcwfa::bytes::{self, NO_DECISION};
-use fcwfa::{simulate, Code, Decided, Decision, Member, Refusal, Vote, LARGEST};
+use fcwfa::{simulate, Code, Decided, Decision, Member, Processes, Refusal, Set, Vote, LARGEST};
 
 /// Bytes that are no state are refused, so nothing that a member shows is out of range.
 #[test]
 fn bytes_that_are_no_state_are_refused() {
-    for bytes in [[4, 3, 1, 200, 7, 9], [0; 6], [9; 6], [255; 6]] {
+    let no_round = [4, 3, 1, 200, 7, 9, 0, 0, 0, 0, 0, 0, 0, 0];
+    for bytes in [no_round, [0; 14], [9; 14], [255; 14]] {
         assert_eq!(Member::from_bytes(bytes), Err(Refusal::State), "{bytes:?}");
     }
 }
 
-/// Whether these are the last four bytes of a state in range with n = 4 and t = 3, as document 01 has it.
-fn in_range([id, round, estimate, decided]: [u8; 4]) -> bool {
+/// Whether these four bytes, with this silent set, make a state in range with n = 4 and t = 3, as documents 01 and 02 have it.
+fn in_range([id, round, estimate, decided]: [u8; 4], silent: Set) -> bool {
     let rounds = match decided {
         0 => (1..=4).contains(&round),
         2..=4 => (decided + 1..=decided + 2).contains(&round) && round <= 5,
         _ => false,
     };
-    rounds && (1..=4).contains(&id) && estimate <= 1
+    let others = silent < 1 << 4 && !Processes::from(silent).contains(id.into());
+    rounds && (1..=4).contains(&id) && estimate <= 1 && others
+}
+
+/// Silent sets of interest with n = 4: all of up to five processes, and one process of each further byte.
+fn sets() -> impl Iterator<Item = Set> + Clone {
+    (0..1 << 5).chain((1..8).map(|byte| 1 << (8 * byte)))
 }
 
 /// Every choice of four bytes that are small enough to be of interest with n = 4 and t = 3.
@@ -34,18 +42,19 @@ fn small() -> impl Iterator<Item = [u8; 4]> {
 #[test]
 fn exactly_the_states_in_range_are_members() {
     let mut accepted = 0;
-    for rest in small() {
+    for (rest, silent) in small().flat_map(|rest| sets().map(move |silent| (rest, silent))) {
         let [id, round, estimate, decided] = rest;
-        let state = [4, 3, id, round, estimate, decided];
+        let mut state = [4, 3, id, round, estimate, decided, 0, 0, 0, 0, 0, 0, 0, 0];
+        state[6..].copy_from_slice(&silent.to_le_bytes());
         let member = match Member::from_bytes(state) {
             Err(refusal) => {
-                assert!(!in_range(rest), "{state:?}");
+                assert!(!in_range(rest, silent), "{state:?}");
                 assert_eq!(refusal, Refusal::State);
                 continue;
             }
             Ok(member) => member,
         };
-        assert!(in_range(rest), "{state:?}");
+        assert!(in_range(rest, silent), "{state:?}");
         accepted += 1;
         assert_eq!(member.to_bytes(), state);
         assert_eq!(bytes::say(&state), Ok(member.say().into()));
@@ -54,9 +63,10 @@ fn exactly_the_states_in_range_are_members() {
         assert_eq!(u8::from(member.estimate()), estimate);
         let round = member.decision().map(|made| made.round);
         assert_eq!(round.unwrap_or(0), decided.into());
+        assert_eq!(member.silent().bits(), silent);
     }
-    // Four numbers and two estimates, with four rounds undecided, and two after a decision in 2 or 3 and one after 4.
-    assert_eq!(accepted, 4 * 2 * (4 + 2 + 2 + 1));
+    // Four numbers and two estimates, with four rounds undecided, and two after a decision in 2 or 3 and one after 4, and the sets of three.
+    assert_eq!(accepted, 4 * 2 * (4 + 2 + 2 + 1) * 8);
 }
 
 /// Runs in which process 3 crashes in round 2 and process 1 in any round, with any reach, among more that are refused.
@@ -108,13 +118,15 @@ fn refusals() -> Vec<Refusal> {
     (0..=255).filter_map(Refusal::from_number).collect()
 }
 
-/// Header and crate are of one version, and of one size of clusters.
+/// Header and crate are of one version, of one size of clusters, and of one size of states.
 #[test]
 fn the_header_is_of_this_version() {
     let header = include_str!("../../fcwfa.h");
     let version = env!("CARGO_PKG_VERSION");
     assert!(header.contains(&format!("#define FCWFA_VERSION \"{version}\"\n")));
     assert!(header.contains(&format!("#define FCWFA_LARGEST_N {LARGEST}\n")));
+    let bytes = size_of::<bytes::State>();
+    assert!(header.contains(&format!("#define FCWFA_STATE_BYTES {bytes}\n")));
 }
 
 /// The header has the same numbers, with the same names in its own spelling.

@@ -9,7 +9,7 @@ cast-is-of-others : tie.Need-cast-is-of-others
 cast-is-of-others c = search needs
 
 sub-is-of-others : tie.Need-sub-is-of-others
-sub-is-of-others c = c .before .before .pre
+sub-is-of-others c = omega (arith, c .before .before .pre)
 
 cast-is-of-others-2 : tie.Need-cast-is-of-others-2
 cast-is-of-others-2 c = search needs
