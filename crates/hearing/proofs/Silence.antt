@@ -1,9 +1,9 @@
 -- The silent set of a row of codes without a decided message: the codes are 0, 1 and 2, so it is the set of the places at which 0 stands; and it is empty
 -- where every code is an estimate. Assumes nothing.
 use mathlib.Core.Path.{_≡_, refl, sym, ap, _∙_}
-use mathlib.Core.Logic.{inl, inr, _≢_}
+use mathlib.Core.Logic.{inl, inr}
 use mathlib.Core.List.{List}
-use mathlib.Core.Bool.{true, false, not}
+use mathlib.Core.Bool.{false, not}
 use Prim.Native.Nat.{ℕ, _*_, _^_, _≤_, _<_}
 use native.Mathlib.Nat.{eq-zero-or-pos, zero-mul}
 use native.Mathlib.Omega.{arith}

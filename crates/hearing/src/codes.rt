@@ -1,6 +1,6 @@
 // A row of codes: its counts, and the questions about it.
 ghost use mathlib.Core.Path.{_≡_};
-ghost use Prim.Native.Nat.{_≤_};
+ghost use Prim.Native.Nat.{_+_, _≤_, _<_};
 ghost use lib.Dec.{eqb, ltb};
 ghost use lib.ListN.{length};
 ghost use Rattle.member.specs.declared.Member.{Member};
@@ -10,94 +10,64 @@ ghost use Rattle.member.specs.Questions.{rowQuestion};
 use laws::bit;
 use member::Tally;
 
-// How often each estimate stands in a row, and how often what is above both.
-struct Estimates {
-    zeros: u8,
-    ones: u8,
+// How often two codes, one above the other, stand in a row, and how often what is above both.
+struct Pair {
+    lower: u8,
+    upper: u8,
     above: u8,
 }
 
-// How often each decided message stands in a row, and how often what is no code.
-struct Above {
-    aborts: u8,
-    commits: u8,
-    others: u8,
-}
-
-// The estimates of a row that is short enough for the counts.
-fn estimates_in(row: &[u8]) -> Estimates
+// The code `code`, the one after it, and what is above both, in a row that is short enough for the counts.
+fn pair_in(row: &[u8], code: u8) -> Pair
     requires short { ⌜ length (now row) ≤ 255 ⌝ }
-    ensures zeros { λ r. ⌜ r .zeros ≡ codes (λ c. eqb c 1) (now (row .entry)) ⌝ }
-    ensures ones { λ r. ⌜ r .ones ≡ codes (λ c. eqb c 2) (now (row .entry)) ⌝ }
-    ensures above { λ r. ⌜ r .above ≡ codes (λ c. ltb 2 c) (now (row .entry)) ⌝ }
+    requires room { ⌜ code < 255 ⌝ }
+    ensures lower { λ r. ⌜ r .lower ≡ codes (λ c. eqb c code) (now (row .entry)) ⌝ }
+    ensures upper { λ r. ⌜ r .upper ≡ codes (λ c. eqb c (code + 1)) (now (row .entry)) ⌝ }
+    ensures above { λ r. ⌜ r .above ≡ codes (λ c. ltb (code + 1) c) (now (row .entry)) ⌝ }
 {
-    let mut zeros: u8 = 0;
-    let mut ones: u8 = 0;
+    let next = code + 1;
+    let mut lower: u8 = 0;
+    let mut upper: u8 = 0;
     let mut above: u8 = 0;
     let mut i: usize = 0;
     while i < row.len() {
         let heard = row[i];
-        zeros += bit(heard == 1);
-        ones += bit(heard == 2);
-        above += bit(2 < heard);
+        lower += bit(heard == code);
+        upper += bit(heard == next);
+        above += bit(next < heard);
         i += 1;
     }
-    Estimates {
-        zeros: zeros,
-        ones: ones,
+    Pair {
+        lower: lower,
+        upper: upper,
         above: above,
     }
 }
 
-// What is above the estimates.
-fn above_in(row: &[u8]) -> Above
-    requires short { ⌜ length (now row) ≤ 255 ⌝ }
-    ensures aborts { λ r. ⌜ r .aborts ≡ codes (λ c. eqb c 3) (now (row .entry)) ⌝ }
-    ensures commits { λ r. ⌜ r .commits ≡ codes (λ c. eqb c 4) (now (row .entry)) ⌝ }
-    ensures others { λ r. ⌜ r .others ≡ codes (λ c. ltb 4 c) (now (row .entry)) ⌝ }
-{
-    let mut aborts: u8 = 0;
-    let mut commits: u8 = 0;
-    let mut others: u8 = 0;
-    let mut i: usize = 0;
-    while i < row.len() {
-        let heard = row[i];
-        aborts += bit(heard == 3);
-        commits += bit(heard == 4);
-        others += bit(4 < heard);
-        i += 1;
-    }
-    Above {
-        aborts: aborts,
-        commits: commits,
-        others: others,
-    }
-}
-
-// The counts of a row that is short enough for them. Most rows hold estimates and nothings alone, and need one
-// pass; what stands above them is told apart in a second.
+// The counts of a row that is short enough for them: first of the estimates, 1 and 2. Most rows hold nothing
+// above them, and need one pass; in others the decided messages, 3 and 4, are told apart in a second.
 pub fn tally(row: &[u8]) -> Tally
     requires short { ⌜ length (now row) ≤ 255 ⌝ }
     ensures counted { λ r. ⌜ r ≡ tallyOf (now (row .entry)) ⌝ }
 {
-    let low = estimates_in(row);
-    let above = low.above;
+    let estimates = pair_in(row, 1);
+    let above = estimates.above;
     if above == 0 {
         return Tally {
-            zeros: low.zeros,
-            ones: low.ones,
+            zeros: estimates.lower,
+            ones: estimates.upper,
             aborts: 0,
             commits: 0,
             others: 0,
         };
     }
-    let high = above_in(row);
+    let decided = pair_in(row, 3);
     Tally {
-        zeros: low.zeros,
-        ones: low.ones,
-        aborts: high.aborts,
-        commits: high.commits,
-        others: high.others,
+        zeros: estimates.lower,
+        ones: estimates.upper,
+        aborts: decided.lower,
+        commits: decided.upper,
+        others: decided.above,
     }
 }
 

@@ -1,6 +1,6 @@
 -- The silent set of a row: it is a set of as many processes as the row is long, names just those that sent no estimate, and so has as many members as
 -- estimates are missing. And what a row tells that sets it. Assumes nothing.
-use mathlib.Core.Path.{_≡_, _∙_}
+use mathlib.Core.Path.{_≡_}
 use mathlib.Core.Bool.{Bool, true, false, not}
 use mathlib.Core.List.{List}
 use Prim.Native.Nat.{ℕ, _-_, _^_, _≤_, _<_}

@@ -1,24 +1,23 @@
 -- The silent sets of a run. A row that sets the set brings no decided message, so each code in it is an estimate or nothing; and nothing comes from those
 -- that crashed before, from those that crash in the round where their reach does not name the hearer, and from nobody else. Assumes nothing.
-use mathlib.Core.Path.{_≡_, refl, sym, ap, _∙_}
+use mathlib.Core.Path.{_≡_, sym, ap, _∙_}
 use mathlib.Core.Logic.{_⊎_, inl, inr}
 use mathlib.Core.Bool.{true, false, not, true≢false}
 use Prim.Native.Nat.{ℕ, suc, _≤_, _<_}
 use native.Mathlib.Nat.{eq-zero-or-pos}
 use native.Mathlib.Omega.{arith}
-use lib.ListN.{length, getD}
 use Rattle.laws.specs.Below.{tabulate}
 use Rattle.laws.proofs.Test.{true-or-false}
 use Rattle.laws.proofs.Lists.{length-tabulate, getD-tabulate}
 use Rattle.member.specs.declared.Member.{Member}
-use Rattle.member.specs.Hearing.{tallyOf, isEstimate, told, setsSilent, silentIn}
+use Rattle.member.specs.Hearing.{tallyOf, isEstimate, setsSilent}
 use Rattle.member.proofs.Codes.{is-estimate}
 use Rattle.member.proofs.Silent.{silent-names, silent-is, Sets, sets}
 use Rattle.sets.specs.Sets.{names}
 use Rattle.schedule.specs.Schedule.{Schedule, crashOf, reachOf}
 use Rattle.schedule.specs.Questions.{Rules}
 use Rattle.run.specs.Protocol.{fcwfa}
-use Rattle.run.specs.Run.{codeHeard, rowOf, statesAfter, after}
+use Rattle.run.specs.Run.{statesAfter, after}
 use Rattle.run.specs.Facts.{WhoHearsWhom}
 use Rattle.run.specs.SilentSets.{SetsInRound, NamesCrashed, SilentSets}
 use Rattle.run.proofs.World.{Plays, NotTold, hears-nothing, hears-estimate, hears-decision}

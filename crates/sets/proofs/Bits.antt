@@ -1,9 +1,9 @@
 -- The bits of a set. A number is below 2 ^ n exactly where nothing is left once its n low bits are shifted out, so such a number names nobody past n; each
 -- bit below stands for one process, so the ones are those that are named; and bits add up to a number that has them for its bits. Assumes nothing.
-use mathlib.Core.Path.{_≡_, refl, sym, ap, ap₂, _∙_}
+use mathlib.Core.Path.{_≡_, refl, sym, ap, _∙_}
 use mathlib.Core.Logic.{inl, inr}
 use mathlib.Core.Bool.{Bool, true, false, true≢false}
-use Prim.Native.Nat.{ℕ, zero, suc, _+_, _-_, _*_, _/_, _%_, _^_, _≤_, _<_}
+use Prim.Native.Nat.{ℕ, zero, suc, _-_, _*_, _/_, _%_, _^_, _≤_, _<_}
 use native.Mathlib.Nat.{div-one, div-eq-of-lt, div-lt-iff-lt-mul, le-div-iff-mul-le, lt-of-lt-of-le, mod-lt, one-mul, pow-suc}
 use native.Mathlib.Numerals.{add-one}
 use native.Mathlib.Omega.{arith}
@@ -11,7 +11,6 @@ use lib.Arith.{lt-one}
 use lib.Count.{ones, ones-step}
 use lib.Dec.{eqb}
 use lib.Pow as Pow
-use borrow.Author.Count.{below-none}
 use borrow.Author.Tests.{eqb-true, eqb-false, ltb-true, lt-ltb, le-ltb, not-true}
 use Rattle.laws.specs.Below.{bit, count, sum}
 use Rattle.laws.proofs.Test.{true-or-false, and-left, and-right}

@@ -1,5 +1,4 @@
 -- `is_set` meets its contract: its tests are those of `setsSilent`, in order. Assumes nothing.
-use native.Mathlib.Omega.{arith}
 use borrow.Author.Needs.{needs}
 use borrow.Author.Tests.{eq-eqb, ne-eqb, le-leb, lt-leb}
 use Rattle.member.specs.Hearing.{setsSilent}

@@ -1,9 +1,7 @@
 -- `is_in_range` meets its contract: its tests are those of `inRange`, in order. Assumes nothing.
 use mathlib.Core.Path.{_≡_}
 use mathlib.Core.Bool.{true, false}
-use native.Mathlib.Omega.{arith}
 use borrow.Author.Needs.{needs}
-use borrow.Author.Tests.{eqb-true}
 use Rattle.laws.proofs.Test.{was-false, was-true}
 use Rattle.sets.specs.Largest.{largest}
 use Rattle.member.specs.State.{inLimits, placed, inRange}
