@@ -1,10 +1,10 @@
 /*
  * Three uses of the library. First a cluster of four members in one process:
  * they commit; with one vote for abort they abort; and they abort where one of
- * them crashes in round 1. Each shows whom its state has as silent. Then the
- * simulator on the same crash, and on a schedule that is refused. Then the
- * crashes of a table, counted up to the one that is too many. Compiles as C11
- * and as C++.
+ * them crashes in round 1. Each member's silent set is printed with its
+ * decision. Then the simulator on the same crash, and on a schedule that is
+ * refused. Then the crashes of a table, counted up to the one that is too many.
+ * Compiles as C11 and as C++.
  */
 #include <assert.h>
 #include <stdio.h>

@@ -97,7 +97,7 @@ typedef uint64_t fcwfa_set;
 /* The round in which the member decided, 0 while it has not. */
 #define FCWFA_STATE_DECIDED 5
 /*
- * The silent set, a fcwfa_set as eight bytes, lowest first: the processes that
+ * The silent set, an fcwfa_set as eight bytes, lowest first: the processes that
  * sent no estimate in the last row that set it. It is empty at opening. A row
  * sets it if the member hears it while undecided, in round 2 or later, and no
  * decided message stands in it, also if the member decides by this row. Every
@@ -105,7 +105,7 @@ typedef uint64_t fcwfa_set;
  * "The silent set" in README.md. In a state in range it names processes from 1
  * to n only, and not the member itself.
  *
- * A state has no alignment, so do not read the set through a pointer to a
+ * A state has no alignment, so do not read the set through a pointer to an
  * fcwfa_set. Copy the eight bytes into one by memcpy, on a machine that has the
  * lowest byte of a number first, as x86-64 has; or put them together one by one,
  * as example.c does.

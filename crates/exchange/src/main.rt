@@ -1,5 +1,5 @@
 // Shows members exchanging rounds: case D of document 01, n = 4, t = 3, all votes 1, where process 1
-// crashes in round 1 and reaches process 2 alone. Then one call for each refusal number.
+// crashes in round 1 and reaches process 2 alone. Then calls for each refusal number.
 use libc::STDOUT_FILENO;
 use member::Heard;
 use member::Member;

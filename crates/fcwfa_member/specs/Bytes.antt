@@ -1,5 +1,5 @@
 -- A member's state as fourteen bytes at fixed places: "n, t, own number, the round to play next, the estimate .., and the decided round", one byte each,
--- and then the silent set "as eight bytes, lowest first, at offset 6".
+-- and then the silent set as eight bytes, the lowest first, from place 6 on.
 use Prim.Native.Nat.{ℕ, _+_, _*_, _/_, _%_, _^_, _<_}
 use mathlib.Core.Path.{_≡_}
 use mathlib.Core.List.{List, [], _∷_, _++_}
@@ -12,7 +12,7 @@ use Rattle.member.specs.declared.Member.{Member}
 abbrev pub setByte : ℕ → ℕ → ℕ
 setByte set k = set / 2 ^ (8 * k) % 2 ^ 8
 
--- the set that stands in eight bytes, of which this is the one at place k
+-- the set that stands in eight bytes, of which `byte k` is the one at place k
 abbrev pub setIn : (ℕ → ℕ) → ℕ
 setIn byte = sum 8 (λ k. byte k * 2 ^ (8 * k))
 
@@ -34,7 +34,7 @@ stateIn bytes = record {
 
 -- What holds of a state and its bytes. Proved in proofs/States.antt: `state-bytes : StateBytes`.
 pub record StateBytes : Type 0 where
-  -- every state is read back from its bytes, and any fourteen bytes are those of the state that stands in them
+  -- every state with a set of up to 64 processes is read back from its bytes, and any fourteen bytes are those of the state that stands in them
   pub reads-back : (m : Member) → m .silent < 2 ^ largest → stateIn (stateBytes m) ≡ m
   pub written : (bytes : List ℕ) → length bytes ≡ 14 → ((k : ℕ) → k < 14 → getD bytes k 0 < 2 ^ 8) → stateBytes (stateIn bytes) ≡ bytes
   -- in document 01's order, with the lowest byte of the set first: n = 44, t = 25, own number 26, round 4, estimate 1, decided in round 3; silent were

@@ -1,5 +1,5 @@
--- Eight codes of at most 2 in the halves of four bytes, and the set of those that are 0. What 2 leaves over a code has its upper bit set exactly where the
--- code is 0; a mask keeps these bits, and a product by four powers of 2 brings them side by side, with nothing else at those places. Assumes nothing.
+-- Eight codes of at most 2 in the halves of four bytes, and the set of those that are 0. 2 less a code is 2, 1 or 0, so its upper bit is set exactly where
+-- the code is 0; a mask keeps these bits, and a product by four powers of 2 brings them side by side, with nothing else at those places. Assumes nothing.
 use mathlib.Core.Path.{_≡_, refl, ap, _∙_}
 use Prim.Native.Nat.{ℕ, zero, suc, _+_, _-_, _*_, _/_, _%_, _^_, _≤_, _<_}
 use native.Mathlib.Omega.{arith}
@@ -10,7 +10,7 @@ use Rattle.laws.specs.Below.{bit, sum}
 use Rattle.laws.proofs.Below.{bit-high}
 use Rattle.sets.specs.Sets.{setOf}
 
--- what 2 leaves over a code has its upper bit set exactly where the code is 0
+-- 2 less a code has its upper bit set exactly where the code is 0
 upper : (c : ℕ) → c ≤ 2 → bitAnd (2 - c) 2 ≡ bit (eqb c 0) * 2
 upper zero _ = refl
 upper (suc zero) _ = refl

@@ -1,6 +1,6 @@
 pub mod Counted
 pub mod Gathered
 pub mod Places
-pub mod Silence
+pub mod SilentRow
 pub mod Deciding
 pub mod Asked

@@ -24,8 +24,8 @@ fn is_set(m: Member, k: Tally) -> bool
     !is_told(k)
 }
 
-// The silent set after a row with these counts, all of which are codes. Where it is set and every code is an
-// estimate, nobody was silent, and no pass is made.
+// The silent set after a row of codes with these counts. Where it is set and every code is an estimate, nobody
+// was silent, and no pass is made.
 pub fn silent_after(m: Member, row: &[u8], k: Tally) -> Set
     requires short { ⌜ length (now row) ≤ largest ⌝ }
     requires counted { ⌜ k ≡ tallyOf (now row) ⌝ }

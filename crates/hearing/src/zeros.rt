@@ -1,8 +1,8 @@
 // The places of a row at which 0 stands, as a set.
 //
-// Codes are taken in eights. Eight codes of at most 2 fit into the halves of four bytes. What 2 leaves over
-// a code has its upper bit set exactly where the code is 0, and one product brings the eight upper bits
-// side by side.
+// Codes are taken in eights. Eight codes of at most 2 fit into the halves of four bytes. 2 less a code is 2, 1
+// or 0, so its upper bit is set exactly where the code is 0, and one product brings the eight upper bits side
+// by side.
 ghost use mathlib.Core.Path.{_≡_};
 ghost use Prim.Native.Nat.{ℕ, _+_, _-_, _*_, _%_, _^_, _≤_, _<_};
 ghost use lib.Dec.{eqb};
@@ -62,7 +62,7 @@ fn eights(row: &[u8]) -> Set
     set
 }
 
-// The set of a row that may be too short for an eight.
+// The same place by place, for a row that is too short for an eight.
 fn one_by_one(row: &[u8]) -> Set
     requires short { ⌜ length (now row) ≤ largest ⌝ }
     ensures named { λ r. ⌜ r ≡ setOf (length (now (row .entry))) (λ j. Below·bit (eqb (getD (now (row .entry)) j 0) 0)) ⌝ }

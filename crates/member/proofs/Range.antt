@@ -109,11 +109,11 @@ pub record Others (m : Member) : Type 0 where
   pub not-own : names (m .silent) (m .id - 1) ≡ false
 
 module _ (m : Member) where
-  pub silent-others : silentOthers m ≡ true → Others m
+  silent-others : silentOthers m ≡ true → Others m
   unfolding silentOthers
   silent-others e = record { below = of-others-below (m .n) (m .id - 1) (m .silent) e; not-own = of-others-not (m .n) (m .id - 1) (m .silent) e }
 
-  pub others-silent : Others m → silentOthers m ≡ true
+  others-silent : Others m → silentOthers m ≡ true
   unfolding silentOthers
   others-silent o = of-others (m .n) (m .id - 1) (m .silent) (o .below) (o .not-own)
 

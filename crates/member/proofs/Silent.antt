@@ -49,7 +49,6 @@ module _ (row : List ℕ) where
 -- Which rows set the silent set.
 pub record Sets (m : Member) (k : Tally) : Type 0 where
   pub undecided-before : m .decided ≡ 0
-  pub late : 2 ≤ m .round
   pub untold : told k ≡ false
 
 pub sets : (m : Member) (k : Tally) → setsSilent m k ≡ true → Sets m k
@@ -58,7 +57,6 @@ sets m k e =
     let later = and-right (undecided m) _ e in
     record {
       undecided-before = eqb-true (m .decided) 0 (and-left (undecided m) _ e);
-      late = leb-true 2 (m .round) (and-left (leb 2 (m .round)) _ later);
       untold = not-true (told k) (and-right (leb 2 (m .round)) _ later);
     }
 

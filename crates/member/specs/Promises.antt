@@ -39,8 +39,8 @@ pub record HearingPromises (limit : ℕ) (m : Member) (row : List ℕ) : Type 0 
   -- the estimate of a decided member never changes, nor does its decided round
   pub estimate-kept : m .decided ≢ 0 → hears m row .estimate ≡ m .estimate
   pub decided-kept : m .decided ≢ 0 → hears m row .decided ≡ m .decided
-  -- an accepted row that sets the silent set makes it name just those of processes 1 to n that sent no estimate: as many as estimates are missing, so the
-  -- quiet rule is "r ≤ t − 1 and the set has at most r − 2 members"
+  -- an accepted row that sets the silent set makes it name just those of processes 1 to n that sent no estimate: as many as estimates are missing. So the
+  -- quiet rule, "r ≤ t − 1 and at most r − 2 processes sent no estimate", asks for at most r − 2 in the set.
   pub silent-named : hearQuestion limit m row ≡ 0 → setsSilent m (tallyOf row) ≡ true
       → (j : ℕ) → j < m .n → names (hears m row .silent) j ≡ not (isEstimate (getD row j 0))
   pub silent-count : hearQuestion limit m row ≡ 0 → setsSilent m (tallyOf row) ≡ true → ones (hears m row .silent) ≡ m .n - estimates (tallyOf row)

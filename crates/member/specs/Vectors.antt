@@ -91,7 +91,8 @@ sayings =
     outOfRange (state 4 3 0 1 1 0 0) ∷
     outOfRange (state 4 3 5 1 1 0 0) ∷
     outOfRange (state 4 3 4 1 2 0 0) ∷
-    -- "it names only processes 1 to n and not the own number": all others, of 4 and of 64, but not process 5, nor the own one; process 64 of 63; and the own one of 64
+    -- "it names only processes 1 to n and not the own number": all others, of 4 and of 64; but not process 5 of 4, nor the own one, nor process 64 of 63,
+    -- nor the own one of 64
     speaks (state 4 3 4 1 1 0 7) 2 ∷
     speaks (state 64 63 64 2 0 0 9223372036854775807) 1 ∷
     speaks (state 64 63 1 4 1 3 18446744073709551614) 4 ∷
@@ -159,7 +160,7 @@ hearings =
     moves (two 3 1 2 0) (five 1 4 1 0 4) (two 4 1 2 0) ∷
     moves (two 3 0 2 0) (five 2 3 2 2 2) (two 4 0 2 0) ∷
     -- "A row heard while undecided from round 2 on, without a decided message, makes it the processes that sent no estimate", whoever it named before: it
-    -- named processes 1 and 4, and becomes process 3 alone, nobody, and, with an estimate 0 among them and a decision, processes 4 and 5
+    -- named processes 1 and 4, and becomes process 3 alone, nobody, and, by a row that holds an estimate 0 and decides, processes 4 and 5
     moves (two 2 1 0 9) (five 2 2 0 2 2) (two 3 1 0 4) ∷
     moves (two 2 1 0 9) (five 2 2 2 2 2) (two 3 1 2 0) ∷
     moves (two 4 1 0 9) (five 1 2 2 0 0) (two 5 0 4 24) ∷

@@ -20,7 +20,7 @@ use sets::Set;
 
 // The state of a member. `id` is its own number, `round` the round to play next, and `decided` the
 // round in which it decided, 0 while it has not. Once it has, `estimate` is the decision. `silent` is the
-// set behind the quiet-round rule: who sent no estimate in the last row that told.
+// set behind the quiet-round rule: who sent no estimate in the last row that set it.
 pub struct Member {
     pub n: u8,
     pub t: u8,

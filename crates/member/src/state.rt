@@ -36,7 +36,7 @@ fn is_placed(m: Member) -> bool
 }
 
 // Whether the silent set names only processes 1 to n, and not the own number, which is in its limits.
-fn names_others(m: Member) -> bool
+fn is_silent_of_others(m: Member) -> bool
     requires id { ⌜ 1 ≤ m .id ⌝ }
     ensures tested { λ r. ⌜ r ≡ silentOthers m ⌝ }
 {
@@ -52,7 +52,7 @@ pub fn is_in_range(m: Member) -> bool
     if !is_placed(m) {
         return false;
     }
-    names_others(m)
+    is_silent_of_others(m)
 }
 
 // Whether a state, in range or not, is that of a stopped member.

@@ -12,9 +12,9 @@ use lib.Dec.{leb}
 use borrow.Author.Tests.{leb-true, leb-false, lt-leb}
 use Rattle.laws.proofs.Counting.{split, find, count-mono, count-strict, count-not}
 use Rattle.member.specs.Hearing.{isEstimate}
+use Rattle.member.proofs.Codes.{estimate-heard}
 use Rattle.run.proofs.OneRound.{by-zeros, by-quiet, by-count, by-last, decides, waits, estimatesIn}
 use Rattle.run.proofs.World.{World, RoundLaws, DecisionRules, Plays, Told, crashes, NobodyDecided, Uniform, AllDecide, crashes-mono, crashes-more}
-use Rattle.member.proofs.Codes.{estimate-heard}
 use Rattle.run.proofs.States.{bits, teller, range, stays, undecided, between, hears-of, heard-by-all, heard-from, nobody-told, plays-on, uniform-step, settled}
 use Rattle.run.proofs.EarlyDecision.{crashes-so-far}
 use Rattle.run.proofs.Votes.{none-in-1}

@@ -9,9 +9,9 @@ use lib.Dec.{leb}
 use borrow.Author.Tests.{le-leb, not-true}
 use Rattle.laws.proofs.Counting.{count-mono, count-not}
 use Rattle.member.specs.Hearing.{isEstimate}
+use Rattle.member.proofs.Codes.{not-estimate}
 use Rattle.run.proofs.OneRound.{estimatesIn, decides, waits}
 use Rattle.run.proofs.World.{World, RoundLaws, DecisionRules, Plays, NotTold, crashes}
-use Rattle.member.proofs.Codes.{not-estimate}
 use Rattle.run.proofs.States.{Way, way, stays-put, told, not-told, missing}
 
 module _ (w : World) where

@@ -14,8 +14,8 @@ use Rattle.laws.proofs.Lists.{length-tabulate, getD-tabulate}
 use Rattle.member.specs.declared.Tally.{Tally}
 use Rattle.member.specs.Hearing.{codes, tallyOf, estimates, told, toldBoth, firstEstimate, lowered, toldValue, isEstimate}
 use Rattle.member.proofs.Counts.{one-code}
-use Rattle.run.proofs.OneRound.{estimatesIn, NoneDecided, LoweredBy}
 use Rattle.member.proofs.Codes.{estimate-not-0}
+use Rattle.run.proofs.OneRound.{estimatesIn, NoneDecided, LoweredBy}
 
 pub codes-are : (test : ℕ → Bool) (n : ℕ) (c : ℕ → ℕ) → codes test (tabulate n c) ≡ count n (λ j. test (c j))
 unfolding codes

@@ -35,8 +35,12 @@ module _ (s : Schedule) (ok : Rules s) (r i : ℕ) (rt : r ≤ s .t) (h : SetsIn
   abbrev heard : ℕ → ℕ
   heard = codeOf fcwfa s r i
 
+  -- the row, by these codes, sets the set
+  row-sets : setsSilent (after fcwfa s r i) (tallyOf (tabulate (s .n) heard)) ≡ true
+  row-sets = ap (λ row. setsSilent (after fcwfa s r i) (tallyOf row)) (sym (row-is fcwfa s r i)) ∙ h .sets-it
+
   sets-row : Sets (after fcwfa s r i) (tallyOf (tabulate (s .n) heard))
-  sets-row = sets _ _ (ap (λ row. setsSilent (after fcwfa s r i) (tallyOf row)) (sym (row-is fcwfa s r i)) ∙ h .sets-it)
+  sets-row = sets _ _ row-sets
 
   plays : Plays (runWorld s) r i
   plays = record {
@@ -63,7 +67,7 @@ module _ (s : Schedule) (ok : Rules s) (r i : ℕ) (rt : r ≤ s .t) (h : SetsIn
       let row = tabulate (s .n) heard in
       let e = ap (λ (m : Member). m .silent) (hearing fcwfa 1 Stands behaves s r i plays .next) in
       let long = length-tabulate (s .n) heard in
-      ap (λ set. names set j) (e ∙ silent-is (after fcwfa s r i) row (ap (λ row. setsSilent (after fcwfa s r i) (tallyOf row)) (sym (row-is fcwfa s r i)) ∙ h .sets-it))
+      ap (λ set. names set j) (e ∙ silent-is (after fcwfa s r i) row row-sets)
       ∙ silent-names row j (omega arith)
       ∙ ap (λ c. not (isEstimate c)) (getD-tabulate (s .n) heard j 0 jl)
 

@@ -154,7 +154,7 @@ module _ (w : World) where
               laws .told d i j o p jl (omega arith) (omega arith)
         ]
 
-    -- nobody that took part until round r said its decision before it to a process that is undecided still
+    -- where i is undecided still, nobody that completed round r had decided before r: i would have heard of it
     pub said-before : (r i j : ℕ) → Plays w r i → j < n → r < crash j → 0 < decided r j → decided r j < r → ⊥
     said-before r i j o jl a p b =
         let rt = o .time in

@@ -8,9 +8,9 @@ use lib.Dec.{leb}
 use borrow.Author.Tests.{leb-false}
 use Rattle.laws.proofs.Counting.{Some, split, count-of-all, count-zero}
 use Rattle.member.specs.Hearing.{isEstimate}
+use Rattle.member.proofs.Codes.{is-estimate}
 use Rattle.run.proofs.OneRound.{decides, waits}
 use Rattle.run.proofs.World.{World, Plays, RoundLaws, DecisionRules, crashes, Uniform, AllDecide}
-use Rattle.member.proofs.Codes.{is-estimate}
 use Rattle.run.proofs.States.{undecided, heard-by-all, heard-from, nobody-told, plays-on, uniform-step, settled}
 
 module _ (w : World) where

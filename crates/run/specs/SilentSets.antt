@@ -4,7 +4,6 @@ use Prim.Native.Nat.{ℕ, suc, _≤_, _<_}
 use mathlib.Core.Path.{_≡_}
 use mathlib.Core.Logic.{_⊎_}
 use mathlib.Core.Bool.{true, false, not}
-use Rattle.member.specs.State.{stopped}
 use Rattle.member.specs.Hearing.{tallyOf, setsSilent}
 use Rattle.sets.specs.Sets.{names}
 use Rattle.schedule.specs.Schedule.{Schedule, crashOf, reachOf}
@@ -13,10 +12,9 @@ use Rattle.run.specs.Run.{rowOf, statesAfter, after}
 use Rattle.run.specs.Demand.{Completes}
 
 module _ (s : Schedule) where
-  -- In round r + 1 process i hears a row that sets its silent set: it completes the round and is not stopped, and the row is such a one.
+  -- In round r + 1 process i hears a row that sets its silent set: it completes the round, and the row is such a one, so that it is undecided.
   pub record SetsInRound (r i : ℕ) : Type 0 where
     pub completes-it : Completes s (suc r) i
-    pub runs : stopped (after fcwfa s r i) ≡ false
     pub sets-it : setsSilent (after fcwfa s r i) (tallyOf (rowOf fcwfa s (suc r) (statesAfter fcwfa s r) i)) ≡ true
 
   -- "after a row that sets it in round r, it names each process that crashed before round r and none whose crash round is 0 or above r": the set of

@@ -25,7 +25,7 @@ fn in_range([id, round, estimate, decided]: [u8; 4], silent: Set) -> bool {
     rounds && (1..=4).contains(&id) && estimate <= 1 && others
 }
 
-/// Silent sets of interest with n = 4: all of up to five processes, and one process of each further byte.
+/// Silent sets of interest with n = 4: all sets of processes 1 to 5, and one process of each further byte.
 fn sets() -> impl Iterator<Item = Set> + Clone {
     (0..1 << 5).chain((1..8).map(|byte| 1 << (8 * byte)))
 }
@@ -65,7 +65,7 @@ fn exactly_the_states_in_range_are_members() {
         assert_eq!(round.unwrap_or(0), decided.into());
         assert_eq!(member.silent().bits(), silent);
     }
-    // Four numbers and two estimates, with four rounds undecided, and two after a decision in 2 or 3 and one after 4, and the sets of three.
+    // Four numbers and two estimates, with four rounds undecided, and two after a decision in 2 or 3 and one after 4, and the sets of the three others.
     assert_eq!(accepted, 4 * 2 * (4 + 2 + 2 + 1) * 8);
 }
 

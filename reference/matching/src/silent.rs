@@ -193,7 +193,7 @@ pub fn all_others(member: &Member) -> Set {
     everyone(member.n) & !bit(member.own)
 }
 
-/// A refused hearing empties the set.
+/// A hearing refused with 17 empties the set.
 pub fn emptied(state: &mut State, _: &[u8], number: u8) -> u8 {
     if number == 17 {
         let mut member = Member::from_bytes(*state);

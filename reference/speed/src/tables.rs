@@ -74,8 +74,8 @@ pub fn by_crashes_borne() {
     }
 }
 
-/// The member's `hear`, on every row that is heard in the runs of a part of those schedules. The states stand in a table of their own, where the
-/// member changes them: a state copied just before its call, or looked at just after it, would be timed with the copy.
+/// The member's `hear`, on every row that is heard in the runs of a part of those schedules. The states stand in a table of their own, which
+/// is copied whole before each pass: a state copied just before its call, or looked at just after it, would make the call wait for the copy.
 pub fn by_row() {
     println!();
     println!("a row heard by a member (ns)");

@@ -9,7 +9,7 @@ use Rattle.laws.proofs.Test.{was-false, was-true}
 use Rattle.member.specs.Hearing.{setsSilent, silentAfter}
 use Rattle.member.proofs.Silent.{sets}
 use Rattle.hearing.proofs.Counted.{estimates-high}
-use Rattle.hearing.proofs.Silence.{plain-codes, silent-nobody, silent-zeros}
+use Rattle.hearing.proofs.SilentRow.{plain-codes, silent-nobody, silent-zeros}
 use Rattle.hearing.proofs.silent.silent_after.Statement.{statement}
 use Rattle.hearing.proofs.silent.silent_after.Tie as tie
 

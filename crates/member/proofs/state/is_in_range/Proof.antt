@@ -33,8 +33,8 @@ returns-2 c =
     let h2 : placed (a .m) ≡ false = was-false (c .before .is-placed .ensures) (c .if2 .taken) in
     rw (h1, h2)
 
-names-others-requires : tie.Need-names-others-requires
-names-others-requires c κs = limits-of largest _ (in-limits (c .before .before)) .id-low
+is-silent-of-others-requires : tie.Need-is-silent-of-others-requires
+is-silent-of-others-requires c κs = limits-of largest _ (in-limits (c .before .before)) .id-low
 
 returns-3 : tie.Need-returns-3
 unfolding inRange
@@ -42,7 +42,7 @@ returns-3 c =
     let a = c .before .before .before .before .before .args in
     let h1 : inLimits largest (a .m) ≡ true = in-limits (c .before .before .before) in
     let h2 : placed (a .m) ≡ true = was-true (c .before .before .is-placed .ensures) (c .before .if2 .left) in
-    rw (h1, h2) (c .names-others .ensures)
+    rw (h1, h2) (c .is-silent-of-others .ensures)
 
 pub is-in-range-spec : {M : Type 1} → statement M
 is-in-range-spec =
@@ -52,5 +52,5 @@ is-in-range-spec =
     returns
     is-placed-requires
     returns-2
-    names-others-requires
+    is-silent-of-others-requires
     returns-3)

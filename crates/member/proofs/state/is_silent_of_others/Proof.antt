@@ -1,9 +1,9 @@
--- `names_others` meets its contract. Assumes nothing.
+-- `is_silent_of_others` meets its contract. Assumes nothing.
 use native.Mathlib.Omega.{arith}
 use borrow.Author.Needs.{needs}
 use Rattle.member.specs.State.{silentOthers}
-use Rattle.member.proofs.state.names_others.Statement.{statement}
-use Rattle.member.proofs.state.names_others.Tie as tie
+use Rattle.member.proofs.state.is_silent_of_others.Statement.{statement}
+use Rattle.member.proofs.state.is_silent_of_others.Tie as tie
 
 cast-is-of-others : tie.Need-cast-is-of-others
 cast-is-of-others c = search needs
@@ -21,6 +21,6 @@ returns : tie.Need-returns
 unfolding silentOthers
 returns c = c .is-of-others .ensures
 
-pub names-others-spec : {M : Type 1} → statement M
-names-others-spec =
+pub is-silent-of-others-spec : {M : Type 1} → statement M
+is-silent-of-others-spec =
     tie.close (tie.spec cast-is-of-others sub-is-of-others cast-is-of-others-2 is-of-others-requires returns)
