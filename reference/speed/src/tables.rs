@@ -76,12 +76,17 @@ pub fn by_crashes_borne() {
 
 /// The member's `hear`, on every row that is heard in the runs of a part of those schedules. The states stand in a table of their own, which
 /// is copied whole before each pass: a state copied just before its call, or looked at just after it, would make the call wait for the copy.
+/// The rows stand one after the other.
 pub fn by_row() {
     println!();
     println!("a row heard by a member (ns)");
     println!("   n   proved  reference  reference/proved     rows");
     for n in sizes() {
         let hearings = hearings(&spread(n)[..256]);
+        let rows: Vec<u8> = hearings
+            .iter()
+            .flat_map(|hearing| hearing.row.clone())
+            .collect();
         let states: Vec<State> = hearings.iter().map(|hearing| hearing.state).collect();
         let mut lent = states.clone();
         let [proved, reference] = fastest(
@@ -89,15 +94,15 @@ pub fn by_row() {
             [
                 &mut || {
                     lent.copy_from_slice(&states);
-                    for (hearing, state) in hearings.iter().zip(&mut lent) {
-                        let heard = bytes::hear(state, black_box(&hearing.row));
+                    for (row, state) in rows.chunks(n).zip(&mut lent) {
+                        let heard = bytes::hear(state, black_box(row));
                         black_box(heard).expect("a row that is heard");
                     }
                     black_box(&lent);
                 },
                 &mut || {
-                    for hearing in &hearings {
-                        let heard = hearing.member.hear(black_box(&hearing.row));
+                    for (row, hearing) in rows.chunks(n).zip(&hearings) {
+                        let heard = hearing.member.hear(black_box(row));
                         black_box(heard).expect("a row that is heard");
                     }
                 },
