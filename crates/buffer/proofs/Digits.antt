@@ -9,8 +9,8 @@ use borrow.Author.Tests.{lt-ltb, le-ltb}
 use lib.Dec.{ltb}
 use Rattle.io.specs.Digits.{glyph, digits, Fewest}
 use Rattle.laws.proofs.Test.{cond-true, cond-false}
-use Rattle.fields.specs.Decimal.{letter, decimalIn, decimal}
-use Rattle.fields.proofs.Digits.{one-place}
+use Rattle.fields.specs.Decimal.{letter, decimalIn, decimal, digitCount}
+use Rattle.fields.proofs.Digits.{one-place, digit-count-is}
 
 glyph-letter : (d : ℕ) → d < 10 → glyph d ≡ letter d
 glyph-letter d l = cond-true (ltb d 10) (48 + d) (87 + d) (lt-ltb d 10 l)
@@ -39,3 +39,10 @@ digits-decimal zero x h = absurd (omega arith)
 digits-decimal (suc k) x h =
     let before : suc k - 1 ≡ k = omega arith in
     digits-in k x x (omega arith) (h .1) (λ some. subst (λ (j : ℕ). 10 ^ j ≤ x) before (h .2 (omega arith)))
+
+-- and so many there are
+pub fewest-digits : (k x : ℕ) → Fewest 10 1 x k → k ≡ digitCount x
+fewest-digits zero x h = absurd (omega arith)
+fewest-digits (suc k) x h =
+    let before : suc k - 1 ≡ k = omega arith in
+    sym (digit-count-is k x (h .1) (λ some. subst (λ (j : ℕ). 10 ^ j ≤ x) before (h .2 (omega arith))))

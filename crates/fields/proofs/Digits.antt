@@ -5,16 +5,17 @@ use mathlib.Core.Logic.{inl, inr}
 use mathlib.Core.List.{List, [], _∷_, _++_, append-assoc}
 use mathlib.Core.Bool.{cond}
 use Prim.Native.Nat.{ℕ, zero, suc, _+_, _-_, _*_, _/_, _%_, _^_, _≤_, _<_}
-use native.Mathlib.Nat.{pow-suc}
+use native.Mathlib.Nat.{pow-suc, pow-le-pow-right}
 use native.Mathlib.Omega.{arith}
 use borrow.Author.Tests.{eq-eqb, ne-eqb, lt-ltb, le-ltb}
 use lib.ListN.{length, length-append}
 use lib.Dec.{ltb, eqb}
 use Rattle.laws.proofs.Test.{cond-true, cond-false}
 use Rattle.laws.proofs.Counting.{split}
+use Rattle.laws.proofs.Least.{least-is}
 use Rattle.lines.specs.Lines.{afterLine}
 use Rattle.lines.proofs.Endings.{after-byte}
-use Rattle.fields.specs.Decimal.{letter, decimalIn, decimal}
+use Rattle.fields.specs.Decimal.{letter, decimalIn, decimal, digitCount}
 
 pub one-place : (steps x : ℕ) → x < 10 → decimalIn steps x ≡ letter x ∷ []
 unfolding decimalIn
@@ -36,6 +37,54 @@ pub two-digits : (x : ℕ) → 10 ≤ x → x ≤ 99 → decimal x ≡ letter (x
 unfolding decimal
 two-digits x low high = two-places x x (omega arith) low high
 
+-- The number of digits: a number below 10 ^ (k + 1), and not below 10 ^ k where k is not 0, has k + 1 of them, and is written in so many.
+pub digit-count-is : (k x : ℕ) → x < 10 ^ suc k → (0 < k → 10 ^ k ≤ x) → digitCount x ≡ suc k
+unfolding digitCount
+digit-count-is k x high low =
+    ap suc (sym (least-is x (λ j. ltb x (10 ^ suc j)) k (few k low)
+    (λ i l.
+    let before : 10 ^ suc i ≤ 10 ^ k = pow-le-pow-right {n = 10} (omega arith) {i = suc i} {j = k} (omega arith) in
+    let from : 10 ^ k ≤ x = low (omega arith) in
+    le-ltb x (10 ^ suc i) (omega arith))
+    (λ _. lt-ltb x (10 ^ suc k) high)))
+  where
+    -- a power of 10 is above its exponent
+    above : (j : ℕ) → j < 10 ^ j
+    above zero = omega arith
+    above (suc j) = let before = above j in let more : 10 ^ suc j ≡ 10 ^ j * 10 = pow-suc 10 j in omega arith
+
+    few : (j : ℕ) → (0 < j → 10 ^ j ≤ x) → j ≤ x
+    few zero h = omega arith
+    few (suc j) h = let most = above (suc j) in let from = h (omega arith) in omega arith
+
+places-long : (steps x : ℕ) → x ≤ steps → (k : ℕ) × (x < 10 ^ suc k) × (0 < k → 10 ^ k ≤ x) × (length (decimalIn steps x) ≡ suc k)
+unfolding decimalIn
+places-long zero x h = (0, omega arith, λ some. absurd (omega arith), refl)
+places-long (suc steps) x h =
+    elim (split 10 x) [
+      | inl a ↦
+          let rest = places-long steps (x / 10) (omega arith) in
+          let k = rest .0 in
+          let high : x / 10 < 10 ^ suc k = rest .1 in
+          let low : 0 < k → 10 ^ k ≤ x / 10 = rest .2 in
+          let long : length (decimalIn steps (x / 10)) ≡ suc k = rest .3 in
+          let more : 10 ^ suc (suc k) ≡ 10 ^ suc k * 10 = pow-suc 10 (suc k) in
+          let all : length (decimalIn steps (x / 10) ++ (letter (x % 10) ∷ [])) ≡ length (decimalIn steps (x / 10)) + 1 = length-append (decimalIn steps (x / 10)) _ in
+          (suc k, omega arith, λ _. tenth k low a, rw (le-ltb x 10 a) (omega arith))
+      | inr a ↦ (0, a, λ some. absurd (omega arith), rw (lt-ltb x 10 a))
+    ]
+  where
+    tenth : (k : ℕ) → (0 < k → 10 ^ k ≤ x / 10) → 10 ≤ x → 10 ^ suc k ≤ x
+    tenth zero low a = a
+    tenth (suc k) low a =
+        let from = low (omega arith) in
+        let more : 10 ^ suc (suc k) ≡ 10 ^ suc k * 10 = pow-suc 10 (suc k) in
+        omega arith
+
+pub digits-long : (x : ℕ) → length (decimal x) ≡ digitCount x
+unfolding decimal
+digits-long x = let p = places-long x x (omega arith) in p .3 ∙ sym (digit-count-is (p .0) x (p .1) (p .2))
+
 -- a number below 10 ^ k has at most k digits
 places-short : (steps k x : ℕ) → x < 10 ^ suc k → length (decimalIn steps x) ≤ suc k
 unfolding decimalIn
@@ -56,9 +105,9 @@ places-short (suc steps) (suc k) x h =
           omega arith
     ]
 
-pub decimal-short : (k x : ℕ) → x < 10 ^ suc k → length (decimal x) ≤ suc k
+pub digits-few : (k x : ℕ) → x < 10 ^ suc k → digitCount x ≤ k + 1
 unfolding decimal
-decimal-short k x h = places-short x k x h
+digits-few k x h = let long = digits-long x in let few = places-short x k x h in omega arith
 
 places-on-line : (steps x : ℕ) (rest : List ℕ) → afterLine (decimalIn steps x ++ rest) ≡ afterLine rest
 unfolding decimalIn

@@ -1,9 +1,10 @@
 -- Numbers as digits: "numbers have .. digits without a leading zero (zero itself is the one digit 0)".
-use Prim.Native.Nat.{ℕ, zero, suc, _+_, _/_, _%_}
+use Prim.Native.Nat.{ℕ, zero, suc, _+_, _/_, _%_, _^_}
 use mathlib.Core.List.{List, [], _∷_, _++_}
 use mathlib.Core.Bool.{Bool, cond}
 use lib.Dec.{ltb}
 use Rattle.laws.specs.Test.{within}
+use Rattle.laws.specs.Below.{least}
 
 -- the letter of a digit: `0` is byte 48
 abbrev pub letter : ℕ → ℕ
@@ -21,6 +22,11 @@ decimalIn (suc steps) x = cond (ltb x 10) (letter x ∷ []) (decimalIn steps (x 
 -- the digits of x: x + 1 places are enough for all of them
 unfoldable pub decimal : ℕ → List ℕ
 decimal x = decimalIn x x
+
+-- How many digits x has: the fewest, but at least one, in which it can be written, and in k of them one can write what is below 10 ^ k. Its law is
+-- `digits-long : (x : ℕ) → length (decimal x) ≡ digitCount x` (proofs/Digits.antt).
+unfoldable pub digitCount : ℕ → ℕ
+digitCount x = suc (least x (λ k. ltb x (10 ^ suc k)))
 
 -- a number and the byte that ends its field
 unfoldable pub field : ℕ → ℕ → List ℕ

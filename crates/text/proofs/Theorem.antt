@@ -13,11 +13,11 @@ use Rattle.run.specs.Protocol.{Protocol}
 use Rattle.run.specs.Report.{Report, report}
 use Rattle.text.specs.Reading.{longest, textAnswer}
 use Rattle.text.specs.Output.{reportText, refusalText, printed, outputOf}
-use Rattle.text.specs.Facts.{SaysTheSame, TextPromises, OutputPromises, PrintedKeepsPromises, AllReadBack}
+use Rattle.text.specs.Facts.{SaysTheSame, TextPromises, OutputPromises, PrintedKeepsPromises, TextLengths, AllReadBack}
 use Rattle.text.proofs.Accepted.{accepted-schedule, line-bound, line-short, prints-promises}
 use Rattle.text.proofs.Inverse.{written}
 use Rattle.text.proofs.ReadBack.{reads-back}
-use Rattle.text.proofs.Sizes.{text-short}
+use Rattle.text.proofs.Sizes.{text-long, text-short}
 use Rattle.text.proofs.Says.{one-reading, no-report, one-refusal}
 
 pub accepted-texts : (limit most : ℕ) → limit ≤ 99 → TextPromises limit most
@@ -50,6 +50,9 @@ module _ (P : Protocol) (limit most : ℕ) where
 
 pub printed-keeps-promises : (limit most : ℕ) → PrintedKeepsPromises limit most
 printed-keeps-promises limit most = record { printed = λ text s. prints-promises text limit most s }
+
+pub text-lengths : TextLengths
+text-lengths = record { long = text-long }
 
 pub all-read-back : AllReadBack
 all-read-back = record {

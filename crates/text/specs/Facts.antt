@@ -15,7 +15,7 @@ use Rattle.schedule.specs.Questions.{question}
 use Rattle.run.specs.Protocol.{Protocol, fcwfa}
 use Rattle.run.specs.Report.{Report, report}
 use Rattle.run.specs.Given.{GivenPromises}
-use Rattle.text.specs.Written.{textOf}
+use Rattle.text.specs.Written.{textOf, textLength}
 use Rattle.text.specs.Reading.{longest, sizesIn, textAnswer}
 use Rattle.text.specs.Output.{reportText, refusalText, outputOf}
 
@@ -63,6 +63,10 @@ pub record OutputPromises (P : Protocol) (limit most : ℕ) : Type 1 where
 -- Under FCWFA: what is promised of what is printed for an accepted text.
 pub record PrintedKeepsPromises (limit most : ℕ) : Type 0 where
   pub printed : (text : List ℕ) (s : Schedule) → textAnswer text limit most ≡ accepted s → PrintsPromises s (outputOf fcwfa text limit most)
+
+-- The length of any schedule's text, accepted or not. Proved in proofs/Theorem.antt: `text-lengths : TextLengths`.
+pub record TextLengths : Type 0 where
+  pub long : (s : Schedule) → length (textOf s) ≡ textLength (s .n) (s .t) (s .votes) (s .crashes)
 
 -- The text of an accepted schedule has at most 4,692 bytes, so that it is never too long, and it is read back. Proved in proofs/Theorem.antt:
 -- `all-read-back : AllReadBack`.

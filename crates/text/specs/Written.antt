@@ -1,9 +1,10 @@
--- The text of a schedule, as a function: what a writer would make of it. Reading is its inverse (specs/Facts.antt).
+-- The text of a schedule, as a function: what the writer makes of it. Reading is its inverse (specs/Facts.antt).
 use Prim.Native.Nat.{ℕ, _+_}
 use mathlib.Core.List.{List, [], _∷_, _++_}
-use Rattle.laws.specs.Below.{bit, tabulate, fold}
+use lib.ListN.{length, getD}
+use Rattle.laws.specs.Below.{bit, sum, tabulate, fold}
 use Rattle.lines.specs.Lines.{lf}
-use Rattle.fields.specs.Decimal.{letter, field}
+use Rattle.fields.specs.Decimal.{letter, digitCount, field}
 use Rattle.fields.specs.Fields.{space}
 use Rattle.sets.specs.Sets.{names}
 use Rattle.schedule.specs.Schedule.{Schedule, voteOf, crashOf, reachOf}
@@ -30,3 +31,18 @@ textOf s =
     ++ (sizesLine (s .n) (s .t)
     ++ (processesHeading
     ++ eachLine (s .n) (λ i. processLine (s .n) i (voteOf s i) (crashOf s i) (reachOf s i))))
+
+-- The length of that text, known before a byte of it is written. It is the same whatever the reaches are. That it is the length is `TextLengths`
+-- (specs/Facts.antt).
+
+-- a process's line: the digits of its number, its vote and its crash round, n letters, three spaces and an LF
+unfoldable pub processLength : ℕ → ℕ → ℕ → ℕ → ℕ
+processLength n i vote crash = digitCount (i + 1) + digitCount vote + digitCount crash + (n + 4)
+
+-- the two headings; the digits of n and t, a space and an LF; and the lines of the processes
+unfoldable pub textLength : ℕ → ℕ → List ℕ → List ℕ → ℕ
+textLength n t votes crashes =
+    length sizesHeading
+    + (digitCount n + digitCount t + 2)
+    + length processesHeading
+    + sum n (λ i. processLength n i (getD votes i 0) (getD crashes i 0))
