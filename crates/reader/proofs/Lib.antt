@@ -1,4 +1,5 @@
 pub mod InOrder
 pub mod Entries
 pub mod Whole
+pub mod Texts
 pub mod Vectors

@@ -35,6 +35,10 @@ all-of-size size votes crashes reaches e =
     let others = and-right (eqb votes size) _ e in
     (eqb-true _ _ (and-left _ _ e), eqb-true _ _ (and-left _ _ others), eqb-true _ _ (and-right (eqb crashes size) _ others))
 
+pub of-size : (size : ℕ) {votes crashes reaches : ℕ} → votes ≡ size → crashes ≡ size → reaches ≡ size → tablesOf size votes crashes reaches ≡ true
+unfolding tablesOf
+of-size size {votes} {crashes} {reaches} v c r = rw (eq-eqb votes size v, eq-eqb crashes size c, eq-eqb reaches size r)
+
 -- both answer tables are n long
 module _ (n decisions rounds : ℕ) where
   pub answers-long : decisions ≡ n → rounds ≡ n → answersOf n decisions rounds ≡ true
@@ -148,16 +152,14 @@ module _ (s : Schedule) where
         (table-lengths (and-left _ answers (p .2)) .1, many)
 
     pub accepted-question : Accepted s limit answers → question s limit answers ≡ 0
-    unfolding question ask andThen tablesOf
+    unfolding question ask andThen
     accepted-question a =
         let n-low = a .n-low in
         let t-high = a .rules .t-high in
         rw (
           within-is 4 (s .n) limit n-low (a .n-high),
           within-is 3 (s .t) (s .n - 1) (a .rules .t-low) (omega arith),
-          eq-eqb (length (s .votes)) (s .n) (a .votes-long),
-          eq-eqb (length (s .crashes)) (s .n) (a .crashes-long),
-          eq-eqb (length (s .reaches)) (s .n) (a .reaches-long),
+          of-size (s .n) (a .votes-long) (a .crashes-long) (a .reaches-long),
           a .answers-long,
           ask-each-passes (s .n) (processQuestion s) (λ i l. process-rules-question i (a .rules .process i l)),
           le-leb (crashCount s) (s .t) (a .rules .few),

@@ -6,10 +6,10 @@ use mathlib.Core.List.{List}
 use mathlib.Core.Bool.{true}
 use Prim.Native.Nat.{ℕ, _≤_, _<_}
 use native.Mathlib.Omega.{arith}
-use borrow.Author.Tests.{eq-eqb, ne-eqb, le-leb, lt-leb}
+use borrow.Author.Tests.{eq-eqb, ne-eqb, le-leb, lt-leb, leb-true}
 use lib.ListN.{length}
 use Rattle.laws.specs.Answer.{ask, andThen, accepted, answer}
-use Rattle.laws.proofs.Answer.{answer-accepted, answer-refused, place-given, place-kept}
+use Rattle.laws.proofs.Answer.{passed, and-then-went-on, answer-accepted, answer-refused, place-given, place-kept}
 use Rattle.sets.specs.Largest.{largest}
 use Rattle.schedule.specs.Schedule.{Schedule}
 use Rattle.schedule.specs.Questions.{question}
@@ -24,14 +24,21 @@ module _ (limit : ℕ) (s : Schedule) (buffer : List ℕ) where
   unfolding writeQuestion andThen
   tables-refuse h = rw (ne-eqb (question s limit true) 0 h)
 
-  module _ (passed : question s limit true ≡ 0) where
+  module _ (asked : question s limit true ≡ 0) where
     pub too-short : length buffer < length (textOf s) → writeQuestion limit s buffer ≡ 18
     unfolding writeQuestion andThen ask
-    too-short h = rw (eq-eqb (question s limit true) 0 passed, lt-leb (length (textOf s)) (length buffer) h)
+    too-short h = rw (eq-eqb (question s limit true) 0 asked, lt-leb (length (textOf s)) (length buffer) h)
 
     pub long-enough : length (textOf s) ≤ length buffer → writeQuestion limit s buffer ≡ 0
     unfolding writeQuestion andThen ask
-    long-enough h = rw (eq-eqb (question s limit true) 0 passed, le-leb (length (textOf s)) (length buffer) h)
+    long-enough h = rw (eq-eqb (question s limit true) 0 asked, le-leb (length (textOf s)) (length buffer) h)
+
+  -- a call whose questions are all passed
+  pub questions-passed : writeQuestion limit s buffer ≡ 0 → (question s limit true ≡ 0) × (length (textOf s) ≤ length buffer)
+  unfolding writeQuestion
+  questions-passed e =
+      let p = and-then-went-on (question s limit true) _ 0 (λ z. z) e in
+      (p .0, leb-true (length (textOf s)) (length buffer) (passed _ 18 0 (omega arith) (p .1) .0))
 
 -- A call that refuses, and one that writes.
 module _ (s : Schedule) (buffer : List ℕ) where
@@ -45,8 +52,8 @@ module _ (s : Schedule) (buffer : List ℕ) where
   pub writes : {next : ℕ} {after : List ℕ} → question s largest true ≡ 0 → length (textOf s) ≤ length buffer → Writes buffer 0 after next (textOf s)
       → WritesSchedule s buffer (Written next) after
   unfolding writeAnswer
-  writes {next} passed fits w =
-      let z = long-enough largest s buffer passed fits in
+  writes {next} asked fits w =
+      let z = long-enough largest s buffer asked fits in
       let front = written-front buffer (textOf s) fits in
       record {
         answered = ap accepted (w .place ∙ front .place) ∙ sym (answer-accepted (writeQuestion largest s buffer) (length (textOf s)) tt z);

@@ -1,17 +1,21 @@
 -- `printed` meets its contract: an answer of the reader's with n and t means an accepted text whose schedule is in the tables, and a refusal a refused
 -- text. Assumes nothing.
 use mathlib.Core.Path.{_≡_, sym, ap, _∙_}
+use mathlib.Core.Bool.{true}
 use borrow.Author.Needs.{needs}
 use lib.ListN.{length, take}
 use Rattle.laws.specs.Answer.{accepted, refused}
 use Rattle.sets.specs.Largest.{largest}
 use Rattle.schedule.specs.Schedule.{scheduleOf}
+use Rattle.schedule.specs.Questions.{tablesOf}
+use Rattle.schedule.proofs.Accepted.{of-size}
 use Rattle.run.specs.Protocol.{fcwfa}
-use Rattle.text.specs.Reading.{longest, scheduleIn}
-use Rattle.reader.specs.Answers.{readingIs, readAnswer}
+use Rattle.text.specs.Reading.{longest, scheduleIn, textAnswer}
 use Rattle.text.specs.Output.{outputOf}
+use Rattle.reader.specs.Answers.{readingIs, readAnswer}
+use Rattle.reader.proofs.Texts.{schedule-read, text-refused}
 use Rattle.output.specs.Answers.{outputIs}
-use Rattle.output.proofs.Texts.{schedule-read, n-small, read-question, report-printed, line-shown, refusal-printed, counts, keeps-promises}
+use Rattle.output.proofs.Texts.{n-small, read-question, report-printed, line-shown, refusal-printed, counts, keeps-promises}
 use Rattle.output.proofs.printed.Statement.{statement}
 use Rattle.output.proofs.printed.Tie as tie
 
@@ -40,8 +44,8 @@ enum-known-reading : tie.Need-enum-known-reading
 enum-known-reading c = search needs
 
 -- the reader's own tables have an entry for each process of the largest cluster
-sized : (c : tie.After-read) → (length (c .before .before .before .before .before .before .zero-bytes .result) ≡ largest) × (length (c .before .before .before .before .before .zero-bytes2 .result) ≡ largest) × (length (c .before .before .before .before .zero-sets .result) ≡ largest)
-sized c = (search needs, search needs, search needs)
+sized : (c : tie.After-read) → tablesOf largest (length (c .before .before .before .before .before .before .zero-bytes .result)) (length (c .before .before .before .before .before .zero-bytes2 .result)) (length (c .before .before .before .before .zero-sets .result)) ≡ true
+sized c = of-size largest (search needs) (search needs) (search needs)
 
 -- the text is accepted
 accepts : (c : tie.After-reading) → let r = c .before .before .before .before .before in accepted (record { n = c .reading .given .0 .0; t = c .reading .given .0 .1 .0 }) ≡ readAnswer largest longest (r .before .before .before .before .before .before .before .before .args .text .now) (r .before .before .before .before .before .before .zero-bytes .result) (r .before .before .before .before .before .zero-bytes2 .result) (r .before .before .before .before .zero-sets .result)
@@ -52,42 +56,37 @@ schedule : (c : tie.After-reading) → let r = c .before .before .before .before
     scheduleOf n t (take n (r .read .last .1 .0)) (take n (r .read .last .1 .1 .0)) (take n (r .read .last .1 .1 .1 .0)) ≡ scheduleIn (r .before .before .before .before .before .before .before .before .args .text .now)
 schedule c =
     let r = c .before .before .before .before .before in
-    let long = sized r in
-    schedule-read _ _ _ _ (long .0) (long .1) (long .2) (accepts c) _ _ _ (r .read .ensures .votes-read) (r .read .ensures .crashes-read) (r .read .ensures .reaches-read)
+    schedule-read largest longest _ _ _ _ (accepts c) _ _ _ (r .read .ensures .votes-read) (r .read .ensures .crashes-read) (r .read .ensures .reaches-read)
 
 of-tables-requires : tie.Need-of-tables-requires
 of-tables-requires c κs =
     let d = c .before in
-    let long = sized (d .before .before .before .before .before) in
-    (n-small _ _ _ _ (long .0) (long .1) (long .2) (accepts d), read-question _ _ _ _ (long .0) (long .1) (long .2) (accepts d) _ (schedule d))
+    (n-small _ _ _ _ (accepts d), read-question _ _ _ _ (accepts d) _ (schedule d))
 
 enum-known-reading-2 : tie.Need-enum-known-reading-2
 enum-known-reading-2 c = search needs
 
 -- the text is refused
-refuses : (c : tie.After-reading2) → let r = c .before .before .before .before .before in refused (c .reading2 .given .0 .0) (c .reading2 .given .0 .1 .0) ≡ readAnswer largest longest (r .before .before .before .before .before .before .before .before .args .text .now) (r .before .before .before .before .before .before .zero-bytes .result) (r .before .before .before .before .before .zero-bytes2 .result) (r .before .before .before .before .zero-sets .result)
-refuses c = let r = c .before .before .before .before .before in sym (ap readingIs (c .reading2 .given .1)) ∙ r .read .ensures .answered
+refuses : (c : tie.After-reading2) → let r = c .before .before .before .before .before in textAnswer (r .before .before .before .before .before .before .before .before .args .text .now) largest longest ≡ refused (c .reading2 .given .0 .0) (c .reading2 .given .0 .1 .0)
+refuses c =
+    let r = c .before .before .before .before .before in
+    text-refused largest longest _ _ _ _ (sized r) (sym (ap readingIs (c .reading2 .given .1)) ∙ r .read .ensures .answered)
 
 refused-requires : tie.Need-refused-requires
-refused-requires c κs =
-    let d = c .before in
-    let long = sized (d .before .before .before .before .before) in
-    line-shown _ _ _ _ (long .0) (long .1) (long .2) (refuses d)
+refused-requires c κs = line-shown _ (refuses (c .before))
 
 returns : tie.Need-returns
 returns c =
     let d = c .before .before in
     let text = d .before .before .before .before .before .before .before .before .before .before .before .before .before .args .text .now in
-    let long = sized (d .before .before .before .before .before) in
-    let e = c .of-tables .ensures .0 ∙ ap outputIs (report-printed text _ _ _ (long .0) (long .1) (long .2) (accepts d) fcwfa _ (schedule d)) in
+    let e = c .of-tables .ensures .0 ∙ ap outputIs (report-printed text _ _ _ (accepts d) fcwfa _ (schedule d)) in
     (e, (counts (outputOf fcwfa text largest longest) e (c .of-tables .ensures .1), keeps-promises text _ e (c .of-tables .ensures .1)))
 
 returns-2 : tie.Need-returns-2
 returns-2 c =
     let d = c .before .before in
     let text = d .before .before .before .before .before .before .before .before .before .before .before .before .before .args .text .now in
-    let long = sized (d .before .before .before .before .before) in
-    let e = c .refused .ensures .0 ∙ ap outputIs (refusal-printed text _ _ _ (long .0) (long .1) (long .2) (refuses d) fcwfa) in
+    let e = c .refused .ensures .0 ∙ ap outputIs (refusal-printed text (refuses d) fcwfa) in
     (e, (counts (outputOf fcwfa text largest longest) e (c .refused .ensures .1), keeps-promises text _ e (c .refused .ensures .1)))
 
 pub printed-spec : {M : Type 1} → statement M
