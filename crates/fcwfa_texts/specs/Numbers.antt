@@ -1,0 +1,38 @@
+-- What the writer and the reader give as numbers: 0 or the number of a refusal; the length that was used; n and t, or the line of a refusal.
+use Prim.Native.Nat.{ℕ}
+use mathlib.Core.Path.{_≡_}
+use mathlib.Core.List.{List, [], _∷_}
+use lib.ListN.{length, getD}
+use Rattle.laws.specs.Answer.{Answer, accepted, refused, placeAfter}
+use Rattle.sets.specs.Largest.{largest}
+use Rattle.schedule.specs.Schedule.{Schedule}
+use Rattle.text.specs.Forms.{Sizes}
+use Rattle.text.specs.Written.{textOf}
+use Rattle.text.specs.Reading.{longest}
+use Rattle.reader.specs.Answers.{readAnswer, votesAfter, crashesAfter, reachesAfter}
+use Rattle.writer.specs.Answers.{writeQuestion, bufferAfter}
+
+-- "The first "no" gives its number.", and 0 is given where there is none
+abbrev pub numberOf : {A B : Type 0} → Answer A B → ℕ
+numberOf (accepted value) = 0
+numberOf (refused number back) = number
+
+-- Three numbers after a reading: n and t with the third as it was lent, or the line of a refusal at the third place with the first two as they were lent.
+abbrev pub readNumbers : Answer Sizes ℕ → List ℕ → List ℕ
+readNumbers (accepted sizes) lent = sizes .n ∷ sizes .t ∷ getD lent 2 0 ∷ []
+readNumbers (refused number line) lent = getD lent 0 0 ∷ getD lent 1 0 ∷ line ∷ []
+
+-- What the writing call promises of a schedule, and of the buffer and the place for a length that it is lent: of the number that it answers, and of what
+-- stands in them after it.
+pub record WritesNumbers (s : Schedule) (text : List ℕ) (used number : ℕ) (textNow : List ℕ) (usedNow : ℕ) : Type 0 where
+  pub number-is : number ≡ writeQuestion largest s text
+  pub text-written : textNow ≡ bufferAfter largest s text
+  pub used-given : usedNow ≡ placeAfter (writeQuestion largest s text) (length (textOf s)) used
+
+-- What the reading call promises of a text, three tables and the place for three numbers: of the number that it answers, and of what stands in them after it.
+pub record ReadsNumbers (text votes crashes reaches read : List ℕ) (number : ℕ) (votesNow crashesNow reachesNow readNow : List ℕ) : Type 0 where
+  pub number-is : number ≡ numberOf (readAnswer largest longest text votes crashes reaches)
+  pub votes-read : votesNow ≡ votesAfter largest longest text votes crashes reaches
+  pub crashes-read : crashesNow ≡ crashesAfter largest longest text votes crashes reaches
+  pub reaches-read : reachesNow ≡ reachesAfter largest longest text votes crashes reaches
+  pub read-given : readNow ≡ readNumbers (readAnswer largest longest text votes crashes reaches) read
