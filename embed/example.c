@@ -1,9 +1,10 @@
 /*
- * Three uses of the library. First a cluster of four members in one process:
+ * Four uses of the library. First a cluster of four members in one process:
  * they commit; with one vote for abort they abort; and they abort where one of
  * them crashes in round 1. Each member's silent set is printed with its
  * decision. Then the simulator on the same crash, and on a schedule that is
  * refused. Then the crashes of a table, counted up to the one that is too many.
+ * Last a schedule in tables, written as its text, read back, and refused.
  * Compiles as C11 and as C++.
  */
 #include <assert.h>
@@ -18,6 +19,7 @@
 static_assert(N <= FCWFA_LARGEST_N, "the cluster is not too large");
 static_assert(FCWFA_LARGEST_N <= 8 * sizeof(fcwfa_set), "a set has a bit for each process");
 static_assert(FCWFA_STATE_SILENT + sizeof(fcwfa_set) == FCWFA_STATE_BYTES, "a state ends with a set");
+static_assert(FCWFA_LONGEST_WRITTEN <= FCWFA_LONGEST_TEXT, "what is written can be read");
 
 /* The set of process i alone. */
 static fcwfa_set only(int i)
@@ -150,6 +152,70 @@ static void count(size_t t, size_t length)
            counted[FCWFA_COUNTED_LOOKED_AT]);
 }
 
+/*
+ * Writes the text of a schedule into the first `length` bytes of a buffer, and
+ * prints it. Answers how long it is, 0 if it is refused.
+ */
+static size_t write_text(uint8_t *text, size_t length)
+{
+    const uint8_t votes[N] = {1, 1, 0, 1};
+    const uint8_t crashes[N] = {1, 0, 4, 0};
+    const fcwfa_set reaches[N] = {only(2), 0, only(1) | only(4), 0};
+    size_t used = 0;
+
+    uint8_t number = fcwfa_write_schedule(N, T, votes, N, crashes, N, reaches, N,
+                                          text, length, &used);
+    if (number != FCWFA_OK) {
+        printf("refused by question %d\n", number);
+        return 0;
+    }
+    /* No 0 byte ends the text: `used` says how long it is. */
+    fwrite(text, 1, used, stdout);
+    return used;
+}
+
+/* Reads the text of a schedule, and prints what it says of each process. */
+static void read_text(const uint8_t *text, size_t length)
+{
+    uint8_t votes[FCWFA_LARGEST_N], crashes[FCWFA_LARGEST_N];
+    fcwfa_set reaches[FCWFA_LARGEST_N];
+    size_t read[FCWFA_READ];
+
+    uint8_t number = fcwfa_read_schedule(text, length, votes, FCWFA_LARGEST_N,
+                                         crashes, FCWFA_LARGEST_N,
+                                         reaches, FCWFA_LARGEST_N, read);
+    if (number != FCWFA_OK) {
+        printf("refused by question %d on line %zu\n", number, read[FCWFA_READ_LINE]);
+        return;
+    }
+    printf("n %zu, t %zu\n", read[FCWFA_READ_N], read[FCWFA_READ_T]);
+    for (size_t i = 0; i < read[FCWFA_READ_N]; i++) {
+        printf("process %zu votes %d", i + 1, votes[i]);
+        if (crashes[i] != 0) {
+            printf(", crashes in round %d and reaches ", crashes[i]);
+            print_set(reaches[i]);
+        }
+        putchar('\n');
+    }
+}
+
+/* A schedule as its text: written, read back, and refused both ways. */
+static void show_texts(void)
+{
+    uint8_t text[FCWFA_LONGEST_WRITTEN];
+
+    puts("the text of a schedule");
+    size_t used = write_text(text, sizeof text);
+    if (used == 0)
+        return;
+    printf("%zu bytes, read back\n", used);
+    read_text(text, used);
+    puts("written into a buffer that is one byte too short");
+    write_text(text, used - 1);
+    puts("read without its last byte");
+    read_text(text, used - 1);
+}
+
 int main(void)
 {
     const uint8_t all_commit[N] = {1, 1, 1, 1};
@@ -177,5 +243,6 @@ int main(void)
     count(4, 6);
     count(SIZE_MAX, 6);
     count(1, 0);
+    show_texts();
     return 0;
 }

@@ -1,13 +1,15 @@
 /*
  * One process of FCWFA, the fast-commit, weakly fast-abort atomic commit
- * protocol, and the simulator of a whole cluster: the proved functions of
- * libfcwfa_member.a and libfcwfa_simulator.a (x86-64 Linux).
+ * protocol, the simulator of a whole cluster, and the texts of its schedules:
+ * the proved functions of libfcwfa_member.a, libfcwfa_simulator.a and
+ * libfcwfa_texts.a (x86-64 Linux).
  *
  * Every function takes any numbers and any bytes. It returns 0 (FCWFA_OK) and
  * does its work, or the number of the first question whose answer is no (the
  * FCWFA_REFUSED_ numbers below) and then leaves everything it was lent as it
- * was. No function allocates, keeps anything between calls, or fails in
- * another way, and any number of threads may call them.
+ * was, with one exception: fcwfa_read_schedule then writes the number of the
+ * refused line, and nothing else. No function allocates, keeps anything between
+ * calls, or fails in another way, and any number of threads may call them.
  *
  * For a call to be safe a caller owes this alone: each pointer is not NULL, also
  * where its length is 0, and is good for the number of entries that is said or
@@ -33,9 +35,9 @@ extern "C" {
  * the header of the library that is linked: it says how much a call writes.
  */
 #define FCWFA_VERSION_MAJOR 0
-#define FCWFA_VERSION_MINOR 6
+#define FCWFA_VERSION_MINOR 7
 #define FCWFA_VERSION_PATCH 0
-#define FCWFA_VERSION "0.6.0"
+#define FCWFA_VERSION "0.7.0"
 
 /* The largest number of processes. */
 #define FCWFA_LARGEST_N 64
@@ -50,7 +52,7 @@ typedef uint64_t fcwfa_set;
 #define FCWFA_REFUSED_N 1
 /* t, the number of crashes to bear, is not from 3 to n - 1. */
 #define FCWFA_REFUSED_T 2
-/* A table is not n long. */
+/* A table is not n long; for fcwfa_read_schedule, not FCWFA_LARGEST_N long. */
 #define FCWFA_REFUSED_LENGTH 3
 /* A vote is not 0 or 1. */
 #define FCWFA_REFUSED_VOTE 4
@@ -60,6 +62,10 @@ typedef uint64_t fcwfa_set;
 #define FCWFA_REFUSED_REACH 6
 /* More than t processes crash. */
 #define FCWFA_REFUSED_CRASHES 7
+/* The text is longer than FCWFA_LONGEST_TEXT bytes. */
+#define FCWFA_REFUSED_TEXT_LENGTH 8
+/* A line is not of its form or is not there, or something follows the last process. */
+#define FCWFA_REFUSED_FORM 9
 /* The own number is not from 1 to n. */
 #define FCWFA_REFUSED_ID 10
 /* The fourteen bytes are not a state in range. */
@@ -76,6 +82,8 @@ typedef uint64_t fcwfa_set;
 #define FCWFA_REFUSED_EARLY 16
 /* Both decided messages, 3 and 4, stand in the row. */
 #define FCWFA_REFUSED_BOTH 17
+/* The buffer is too short for the whole text. */
+#define FCWFA_REFUSED_BUFFER 18
 
 /*
  * A member's state is fourteen bytes at these offsets: six numbers, one byte
@@ -210,6 +218,60 @@ uint8_t fcwfa_simulate(size_t n, size_t t,
 uint8_t fcwfa_count_crashes(size_t t,
                             const uint8_t *crashes, size_t crashes_length,
                             size_t counted[FCWFA_COUNTED]);
+
+/* The longest text that is read, in bytes. A longer one is refused with 8. */
+#define FCWFA_LONGEST_TEXT 8192
+/*
+ * The longest text that is written, in bytes: that of no accepted schedule has
+ * more, so a buffer of this length is never refused with 18. No text that has
+ * more is accepted by fcwfa_read_schedule.
+ */
+#define FCWFA_LONGEST_WRITTEN 4692
+
+/*
+ * Writes the text of a schedule, the one that `bench` and fcwfa_read_schedule
+ * read. The schedule is in tables as fcwfa_simulate takes them: all three are n
+ * long. The text stands at the start of `text`, and the bytes after it keep
+ * their contents. Its length is written to `used`; a buffer of exactly this
+ * length is enough, and no 0 byte ends the text.
+ * Refusals, in this order: 1, 2, 3, then for each process in turn 4, 5, 6, then
+ * 7, and last 18: the buffer is too short for the whole text. `text` and `used`
+ * are then as they were.
+ */
+uint8_t fcwfa_write_schedule(size_t n, size_t t,
+                             const uint8_t *votes, size_t votes_length,
+                             const uint8_t *crashes, size_t crashes_length,
+                             const fcwfa_set *reaches, size_t reaches_length,
+                             uint8_t *text, size_t text_length,
+                             size_t *used);
+
+/* What fcwfa_read_schedule writes to `read`, at these places. */
+#define FCWFA_READ 3
+/* The number of processes, if the text is accepted. */
+#define FCWFA_READ_N 0
+/* The number of crashes to bear, if the text is accepted. */
+#define FCWFA_READ_T 1
+/* The number of the refused line, from 1, or 0 for no line, if the text is refused. */
+#define FCWFA_READ_LINE 2
+
+/*
+ * Reads the text of a schedule into tables. All three have FCWFA_LARGEST_N
+ * entries, for n is not known before. The first n entries of each get what the
+ * text says, and those after them keep their contents; n and t are written to
+ * `read`, and its third place is as it was. The tables can be passed on to
+ * fcwfa_simulate and fcwfa_write_schedule, with n for their lengths, and
+ * fcwfa_write_schedule makes the same text of them again.
+ * Refusals, in this order: 3 with line 0; 8 with line 0; then line by line 9,
+ * followed on line 2 by 1, 2 and on the line of a process by 4, 5, 6; then 9
+ * with line n + 4, if anything follows line n + 3; and last 7 with line n + 3.
+ * The line's number is written to the third place of `read`. Its first two
+ * places and the tables are then as they were.
+ */
+uint8_t fcwfa_read_schedule(const uint8_t *text, size_t text_length,
+                            uint8_t *votes, size_t votes_length,
+                            uint8_t *crashes, size_t crashes_length,
+                            fcwfa_set *reaches, size_t reaches_length,
+                            size_t read[FCWFA_READ]);
 
 #ifdef __cplusplus
 }

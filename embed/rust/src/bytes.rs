@@ -1,8 +1,9 @@
 //! The calls on bare bytes and numbers, as `embed/fcwfa.h` has them, for programs that carry or test any bytes.
 //!
 //! Each call takes any values. It does its work, or answers the number of the first question whose answer is no and leaves everything it
-//! was lent as it was; [`Refusal::from_number`](crate::Refusal::from_number) has the words for a number. The contract at the top of this
-//! crate is that of these calls too.
+//! was lent as it was, with one exception: [`read_schedule`] then writes the number of the refused line.
+//! [`Refusal::from_number`](crate::Refusal::from_number) has the words for a number. The contract at the top of this crate is that of
+//! these calls too.
 //!
 //! Everything unsafe in this crate is here.
 #![allow(unsafe_code)]
@@ -46,6 +47,30 @@ mod foreign {
             crashes: *const u8,
             crashes_length: usize,
             counted: *mut usize,
+        ) -> u8;
+        pub fn fcwfa_write_schedule(
+            n: usize,
+            t: usize,
+            votes: *const u8,
+            votes_length: usize,
+            crashes: *const u8,
+            crashes_length: usize,
+            reaches: *const Set,
+            reaches_length: usize,
+            text: *mut u8,
+            text_length: usize,
+            used: *mut usize,
+        ) -> u8;
+        pub fn fcwfa_read_schedule(
+            text: *const u8,
+            text_length: usize,
+            votes: *mut u8,
+            votes_length: usize,
+            crashes: *mut u8,
+            crashes_length: usize,
+            reaches: *mut Set,
+            reaches_length: usize,
+            read: *mut usize,
         ) -> u8;
     }
 }
@@ -131,6 +156,73 @@ pub fn count_crashes(t: usize, crashes: &[u8]) -> Result<CrashCount, u8> {
         foreign::fcwfa_count_crashes(t, crashes.as_ptr(), crashes.len(), counted.as_mut_ptr())
     };
     accepted(number, CrashCount::of_table(counted))
+}
+
+/// Writes the text of a schedule in tables, as [`simulate`] takes them, to the start of `text`, and its length to `used`: see
+/// [`Schedule`](crate::Schedule). The bytes after the text keep their contents. A buffer of exactly the text's length is enough, and
+/// [`LONGEST_WRITTEN`](crate::LONGEST_WRITTEN) bytes are enough for every text.
+///
+/// Refusals: 1, 2, 3 (all three tables are n long), 4, 5, 6 for each process in turn, 7, 18 (the buffer is too short for the whole text).
+/// `text` and `used` are then as they were.
+pub fn write_schedule(
+    n: usize,
+    t: usize,
+    votes: &[u8],
+    crashes: &[u8],
+    reaches: &[Set],
+    text: &mut [u8],
+    used: &mut usize,
+) -> Result<(), u8> {
+    // SAFETY: each pointer is good for the length given with it and the last for one number; what is written is lent by `&mut`, so it
+    // overlaps with nothing else.
+    let number = unsafe {
+        foreign::fcwfa_write_schedule(
+            n,
+            t,
+            votes.as_ptr(),
+            votes.len(),
+            crashes.as_ptr(),
+            crashes.len(),
+            reaches.as_ptr(),
+            reaches.len(),
+            text.as_mut_ptr(),
+            text.len(),
+            used,
+        )
+    };
+    accepted(number, ())
+}
+
+/// Reads the text of a schedule into tables of [`LARGEST`](crate::LARGEST) entries: see [`Schedule`](crate::Schedule). The first n entries
+/// of each get what the text says, and those after them keep their contents. `read` gets n and t in its first two places, and its third
+/// is as it was.
+///
+/// Refusals: 3 (all three tables have [`LARGEST`](crate::LARGEST) entries) and 8, both with line 0; then line by line 9, followed on line 2
+/// by 1, 2 and on the line of a process by 4, 5, 6; 9 with line n + 4, if anything follows line n + 3; 7 with line n + 3. The line's number
+/// is written to the third place of `read`; its first two places and the tables are then as they were.
+pub fn read_schedule(
+    text: &[u8],
+    votes: &mut [u8],
+    crashes: &mut [u8],
+    reaches: &mut [Set],
+    read: &mut [usize; 3],
+) -> Result<(), u8> {
+    // SAFETY: each pointer is good for the length given with it and the last for three numbers; what is written is lent by `&mut`, so it
+    // overlaps with nothing else.
+    let number = unsafe {
+        foreign::fcwfa_read_schedule(
+            text.as_ptr(),
+            text.len(),
+            votes.as_mut_ptr(),
+            votes.len(),
+            crashes.as_mut_ptr(),
+            crashes.len(),
+            reaches.as_mut_ptr(),
+            reaches.len(),
+            read.as_mut_ptr(),
+        )
+    };
+    accepted(number, ())
 }
 
 // A code and a vote are a byte each.

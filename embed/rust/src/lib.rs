@@ -1,8 +1,13 @@
-//! One process of FCWFA, the fast-commit, weakly fast-abort atomic commit protocol, and the simulator of a whole cluster.
+//! One process of FCWFA, the fast-commit, weakly fast-abort atomic commit protocol, the simulator of a whole cluster, and the texts of its
+//! schedules.
 //!
-//! The work is done by the proved functions of `libfcwfa_member.a` and `libfcwfa_simulator.a`; this crate only gives their numbers types
-//! and lends them slices. A call does its work, or answers a [`Refusal`] and leaves everything it was lent as it was. Every type says which
-//! numbers it stands for; they are those of `embed/fcwfa.h`. The module [`bytes`] has the same calls on the bare numbers.
+//! The work is done by the proved functions of `libfcwfa_member.a`, `libfcwfa_simulator.a` and `libfcwfa_texts.a`; this crate only gives
+//! their numbers types and lends them slices. A call does its work, or answers a [`Refusal`] and leaves everything it was lent as it was.
+//! Every type says which numbers it stands for; they are those of `embed/fcwfa.h`. The module [`bytes`] has the same calls on the bare
+//! numbers.
+//!
+//! [`Member`] is one process, [`simulate`] runs a whole cluster, and a [`Schedule`] is what a cluster is run by: it parses from the text
+//! that the program `bench` reads, and displays as it.
 //!
 //! Four members vote to commit, every message arrives, and all of them commit in round 2:
 //!
@@ -62,18 +67,26 @@ mod crashes;
 mod member;
 mod processes;
 mod refusal;
+mod schedule;
 mod simulator;
 mod values;
 
 pub use crashes::{count_crashes, CrashCount};
 pub use member::Member;
 pub use processes::{ProcessNumbers, Processes};
-pub use refusal::Refusal;
+pub use refusal::{Refusal, TextRefusal};
+pub use schedule::Schedule;
 pub use simulator::{simulate, Counts, Report};
 pub use values::{Code, Decided, Decision, Vote};
 
 /// The largest number of processes.
 pub const LARGEST: usize = 64;
+
+/// The longest text of a schedule that is read, in bytes. A longer one is refused with [`Refusal::TextLength`].
+pub const LONGEST_TEXT: usize = 8192;
+
+/// The longest text of a schedule that is written, in bytes: that of no accepted schedule has more.
+pub const LONGEST_WRITTEN: usize = 4692;
 
 /// A set of processes as a number, such as a reach; bit j - 1 stands for process j. [`Processes`] tells whom it names.
 pub type Set = u64;

@@ -15,6 +15,13 @@ pub enum Vote {
     Commit = 1,
 }
 
+impl Vote {
+    /// The vote that the library wrote as this byte.
+    pub(crate) fn answered(byte: u8) -> Vote {
+        Vote::try_from(byte).unwrap_or_else(|_| unknown("vote", byte))
+    }
+}
+
 impl TryFrom<u8> for Vote {
     type Error = Refusal;
 

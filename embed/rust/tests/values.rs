@@ -3,7 +3,8 @@ use std::collections::BTreeSet;
 use std::mem::size_of;
 
 use fcwfa::bytes::{self, NO_DECISION};
-use fcwfa::{simulate, Code, Decided, Decision, Member, Processes, Refusal, Set, Vote, LARGEST};
+use fcwfa::{simulate, Code, Decided, Decision, Member, Processes, Refusal, Set, Vote};
+use fcwfa::{LARGEST, LONGEST_TEXT, LONGEST_WRITTEN};
 
 /// Bytes that are no state are refused, so nothing that a member shows is out of range.
 #[test]
@@ -118,7 +119,7 @@ fn refusals() -> Vec<Refusal> {
     (0..=255).filter_map(Refusal::from_number).collect()
 }
 
-/// Header and crate are of one version, of one size of clusters, and of one size of states.
+/// Header and crate are of one version, of one size of clusters, of states and of texts.
 #[test]
 fn the_header_is_of_this_version() {
     let header = include_str!("../../fcwfa.h");
@@ -127,6 +128,10 @@ fn the_header_is_of_this_version() {
     assert!(header.contains(&format!("#define FCWFA_LARGEST_N {LARGEST}\n")));
     let bytes = size_of::<bytes::State>();
     assert!(header.contains(&format!("#define FCWFA_STATE_BYTES {bytes}\n")));
+    assert!(header.contains(&format!("#define FCWFA_LONGEST_TEXT {LONGEST_TEXT}\n")));
+    assert!(header.contains(&format!(
+        "#define FCWFA_LONGEST_WRITTEN {LONGEST_WRITTEN}\n"
+    )));
 }
 
 /// The header has the same numbers, with the same names in its own spelling.
