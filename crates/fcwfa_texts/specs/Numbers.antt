@@ -22,6 +22,14 @@ abbrev pub readNumbers : Answer Sizes ℕ → List ℕ → List ℕ
 readNumbers (accepted sizes) lent = sizes .n ∷ sizes .t ∷ getD lent 2 0 ∷ []
 readNumbers (refused number line) lent = getD lent 0 0 ∷ getD lent 1 0 ∷ line ∷ []
 
+-- What holds of them. Proved in proofs/InOrder.antt: `numbers-in-order : NumbersInOrder`.
+pub record NumbersInOrder : Type 0 where
+  -- "n, t, and on a refusal the line's number": n = 4 and t = 3 of case D, and a refusal with 5 on line 6, in a place that held 7, 8 and 9
+  pub sizes : readNumbers (accepted (record { n = 4; t = 3 })) (7 ∷ 8 ∷ 9 ∷ []) ≡ 4 ∷ 3 ∷ 9 ∷ []
+  pub line : readNumbers (refused 5 6) (7 ∷ 8 ∷ 9 ∷ []) ≡ 7 ∷ 8 ∷ 6 ∷ []
+  pub no-refusal : numberOf {A = ℕ} {B = ℕ} (accepted 72) ≡ 0
+  pub refusal : numberOf {A = ℕ} {B = ℕ} (refused 5 6) ≡ 5
+
 -- What the writing call promises of a schedule, and of the buffer and the place for a length that it is lent: of the number that it answers, and of what
 -- stands in them after it.
 pub record WritesNumbers (s : Schedule) (text : List ℕ) (used number : ℕ) (textNow : List ℕ) (usedNow : ℕ) : Type 0 where
