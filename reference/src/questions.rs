@@ -1,4 +1,5 @@
-//! The numbers of the refusals and the questions that several calls share (document 01, "Questions before work").
+//! The numbers of the refusals and the questions that several calls share (document 01, "Questions before work";
+//! document 02, K2: number 18).
 
 use std::ops::RangeInclusive;
 
@@ -47,10 +48,12 @@ pub enum Refusal {
     EarlyDecided = 16,
     /// Not both 3 and 4?
     BothDecided = 17,
+    /// Buffer long enough for the whole text?
+    Buffer = 18,
 }
 
 impl Refusal {
-    /// The number that document 01 gives to the question.
+    /// The number that document 01 or 02 gives to the question.
     pub fn number(self) -> u8 {
         self as u8
     }

@@ -114,7 +114,7 @@ impl Schedule {
         self.ask_crashes()
     }
 
-    /// Questions 1 to 7 with answer tables of the right length.
+    /// Questions 1 to 7 for a call that takes the three input tables alone: as with answer tables of the right length.
     pub fn ask(&self) -> Result<(), Refusal> {
         self.ask_tables(self.n, self.n)
     }

@@ -1,5 +1,6 @@
 //! The schedule text: reading, writing, and a line of it (document 01, "Schedule text and report" and the text part of
-//! "Questions before work").
+//! "Questions before work", but for number 3; the calls with a lent buffer and lent tables are in
+//! [`files`](crate::files)).
 
 use crate::questions::{ask, ask_sizes, Refusal};
 use crate::schedule::{bit, Schedule};
@@ -168,7 +169,7 @@ pub fn line(text: &[u8], k: usize) -> &[u8] {
 }
 
 /// The text of a schedule whose tables are n long, n at most [`LARGEST`](crate::LARGEST). It is read back as the same
-/// schedule if that is accepted.
+/// schedule if that is accepted, and an accepted text is the one of its schedule (document 02, K2).
 pub fn write(schedule: &Schedule) -> Vec<u8> {
     let (n, t) = (schedule.n, schedule.t);
     let mut text = format!("{HEADING_SIZES}\n{n} {t}\n{HEADING_PROCESSES}\n");

@@ -70,7 +70,7 @@ restored w used wrote r e sized =
       reaches = h .reaches-read ∙ table (λ x. x .reaches) (r .reaches) (ok .reaches-long);
       schedule =
           schedule-read largest longest (r .text) (r .votes) (r .crashes) (r .reaches) (sym sizes) _ _ _ (h .votes-read) (h .crashes-read) (h .reaches-read)
-              ∙ its-schedule largest longest (r .text) (r .votes) (r .crashes) (r .reaches) sized back;
+          ∙ its-schedule largest longest (r .text) (r .votes) (r .crashes) (r .reaches) sized back;
     }
 
 -- A text that was read is that of the schedule in the tables, which is accepted.

@@ -4,8 +4,8 @@ use std::path::PathBuf;
 
 /// What the program says when its arguments are wrong.
 pub const USAGE: &str = "\
-matching [--bench PATH] [--seed S]... [--valid N] [--damaged N] [--tables N] [--counts N] [--members N] [--runs N]
-         [--skip-small]
+matching [--bench PATH] [--seed S]... [--valid N] [--damaged N] [--tables N] [--counts N] [--writes N] [--reads N]
+         [--trips N] [--members N] [--runs N] [--skip-small]
 matching --self-test
 matching --help";
 
@@ -17,6 +17,7 @@ pub fn help() -> String {
     let default = Arguments::default();
     let (valid, damaged) = (default.valid, default.damaged);
     let (tables, counts) = (default.tables, default.counts);
+    let (writes, reads, trips) = (default.writes, default.reads, default.trips);
     let (members, runs) = (default.members, default.runs);
     format!(
         "\
@@ -30,6 +31,9 @@ Puts the same input through the proved code and through the reference, and compa
   --damaged N    how many damaged texts that are refused [{damaged}]
   --tables N     how many calls on tables [{tables}]
   --counts N     how many counts of crashes [{counts}]
+  --writes N     how many schedules written into a buffer [{writes}]
+  --reads N      how many texts read into tables [{reads}]
+  --trips N      how many round trips each way, written and read, and read and written [{trips}]
   --members N    how many calls to a member [{members}]
   --runs N       how many runs whose members are opened and hear all their rows [{runs}]
   --skip-small   skip the schedules with n = 4 and t = 3 [all of them are compared]
@@ -64,6 +68,12 @@ pub struct Arguments {
     pub tables: u64,
     /// How many counts of crashes.
     pub counts: u64,
+    /// How many schedules written into a buffer.
+    pub writes: u64,
+    /// How many texts read into tables.
+    pub reads: u64,
+    /// How many round trips each way.
+    pub trips: u64,
     /// How many calls to a member.
     pub members: u64,
     /// How many runs whose members are opened and hear all their rows.
@@ -83,6 +93,9 @@ impl Default for Arguments {
             damaged: 4_000,
             tables: 200_000,
             counts: 1_000_000,
+            writes: 60_000,
+            reads: 80_000,
+            trips: 20_000,
             members: 1_000_000,
             runs: 20_000,
             skip_small: false,
@@ -133,6 +146,9 @@ fn set(arguments: &mut Arguments, name: &str, value: &str) -> Result<(), String>
         "--damaged" => arguments.damaged = number()?,
         "--tables" => arguments.tables = number()?,
         "--counts" => arguments.counts = number()?,
+        "--writes" => arguments.writes = number()?,
+        "--reads" => arguments.reads = number()?,
+        "--trips" => arguments.trips = number()?,
         "--members" => arguments.members = number()?,
         "--runs" => arguments.runs = number()?,
         _ => return Err(format!("{name} is unknown")),
@@ -160,7 +176,7 @@ mod tests {
     #[test]
     fn values_are_taken() {
         let line = "--bench x --seed 5 --valid 1 --seed 6 --damaged 2 --tables 3 --counts 4 \
-                    --members 5 --runs 6 --skip-small";
+                    --members 5 --runs 6 --writes 7 --reads 8 --trips 9 --skip-small";
         let expected = Arguments {
             help: false,
             self_test: false,
@@ -170,6 +186,9 @@ mod tests {
             damaged: 2,
             tables: 3,
             counts: 4,
+            writes: 7,
+            reads: 8,
+            trips: 9,
             members: 5,
             runs: 6,
             skip_small: true,
@@ -202,7 +221,15 @@ mod tests {
                 assert!(help.contains(&format!("\n  {flag}")), "{flag}");
             }
         }
-        for default in ["[1]", "[4000]", "[200000]", "[1000000]", "[20000]"] {
+        for default in [
+            "[1]",
+            "[4000]",
+            "[200000]",
+            "[1000000]",
+            "[60000]",
+            "[80000]",
+            "[20000]",
+        ] {
             assert!(help.contains(default), "{default}");
         }
     }

@@ -18,7 +18,7 @@ use crate::wrong::{answer_by, number};
 pub const OLD_LARGEST: usize = 32;
 
 /// The length of the longest text of document 01.
-const OLD_LONGEST: usize = 2_048;
+pub const OLD_LONGEST: usize = 2_048;
 
 /// A refusal of an accepted schedule: the question, and the line of a text.
 pub type Refuse = fn(&Schedule) -> Option<Refused>;

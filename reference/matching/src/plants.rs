@@ -9,22 +9,26 @@ use reference::so_far::{crashes_by, settling_round, Rule, RULE};
 use reference::LARGEST;
 
 use crate::crashes::{self, CountCrashes};
+use crate::files::{self, ReadBy, Text, WriteBy, ACCEPTED, BUFFERS, IN_LONGER, QUESTIONS, TEXTS};
 use crate::limits::{self, Cut, Refuse, UpTo, CUTS, REFUSED};
 use crate::members::{self, Machine};
 use crate::outcome::{share, Outcome};
 use crate::random::Random;
+use crate::reads::{self, Read};
 use crate::silent::{self, HighestFirst, IN_ANY_STATE, IN_RUNS, TAKEN};
 use crate::summary::{spelled, Summary};
 use crate::tables::{self, by_reference, Simulate};
 use crate::texts::{self, Program};
-use crate::whole::{check_lengths, check_sizes};
+use crate::whole::{check_kinds, check_lengths, check_sizes};
 use crate::whole::{check_small_count, check_small_equalities, check_small_settings};
+use crate::writes::{self, Write};
 use crate::wrong::{self, Change, Hear, Take, Wrong, COUNTS, CRASHES, ENDS, FIRSTS, RIGHT, TURNS};
 use crate::wrong::{LOOSE, RULES};
-use crate::{demands, generate, runs, small};
+use crate::{demands, generate, runs, small, trips};
 
-/// The seed and the counts of the self-test. Every size comes up among the finished runs and those of members, every
-/// second one among the valid texts, and every length of a table with every kind of count of crashes.
+/// The seed and the counts of the self-test. Every size comes up among the finished runs, those of members and the
+/// round trips, every second one among the valid texts, and every length of a table with every kind of count of
+/// crashes.
 const SEED: u64 = 1;
 const SIZES: u64 = generate::SIZES_COUNT as u64;
 const VALID: u64 = SIZES / 2;
@@ -32,6 +36,8 @@ const DAMAGED: u64 = 1_400;
 const STEP: usize = 97;
 const TABLES: u64 = 9_000;
 const CRASH_COUNTS: u64 = 2 * (crashes::KINDS.len() * crashes::LENGTHS) as u64;
+const WRITES: u64 = 200 * writes::KINDS as u64;
+const READS: u64 = 100 * reads::KINDS as u64;
 const MEMBERS: u64 = 70_000;
 
 /// A planted difference: the part of the matching, its name, and what that part then finds.
@@ -108,6 +114,9 @@ pub fn controls() -> Vec<Plant> {
         met_with_equality(NAME, &RULE),
         called(NAME, &by_reference),
         counted(NAME, &crashes::by_reference),
+        written(NAME, &writes::by_reference),
+        read(NAME, &reads::by_reference),
+        tripped(NAME, &writes::by_reference, &reads::by_reference),
         machine(NAME, &RIGHT),
         in_run(NAME, &RIGHT),
     ]
@@ -120,6 +129,9 @@ pub fn plants() -> Vec<Plant> {
     plants.extend(in_texts());
     plants.extend(in_calls());
     plants.extend(in_crash_counts());
+    plants.extend(in_writes());
+    plants.extend(in_reads());
+    plants.extend(in_trips());
     plants.extend(in_promises());
     plants.extend(in_rounds_by_crashes());
     plants.extend(in_members());
@@ -130,7 +142,8 @@ pub fn plants() -> Vec<Plant> {
 }
 
 /// Faults other than differences: a refusal number that is never met, a schedule left out, a row left out that sets the
-/// silent processes, a size left out, a length left out, and rules of the crashes so far that no run breaks.
+/// silent processes, a size left out, a length left out, a kind left out, and rules of the crashes so far that no run
+/// breaks.
 pub fn faults() -> Vec<Plant> {
     let right = |text: &[u8]| Ok(answer(text));
     let few = texts::compare_damaged(SEED, 3, &right);
@@ -149,8 +162,32 @@ pub fn faults() -> Vec<Plant> {
         in_run_times("one size left out", SIZES - 1, &RIGHT),
         short,
     ];
+    faults.extend(few_files());
     let loose = LOOSE.into_iter();
     faults.extend(loose.map(|(name, rule)| met_with_equality(name, &rule)));
+    faults
+}
+
+/// Too few writings, readings and round trips.
+fn few_files() -> Vec<Plant> {
+    let (write, read): (WriteBy, ReadBy) = (writes::by_reference, reads::by_reference);
+    let (never, kind) = ("refusal numbers never met", "one kind left out");
+    let written = |count| writes::compare(SEED, count, &write);
+    let texts_read = |count| reads::compare(SEED, count, &read);
+    let all_but_one = (writes::KINDS as u64 - 1, reads::KINDS as u64 - 1);
+    let mut faults = vec![
+        Plant::new("schedules written", never, written(3), &writes::NUMBERS),
+        Plant::new("texts read", never, texts_read(3), &reads::NUMBERS),
+        tripped_times("one size left out", SIZES - 1, &write, &read),
+    ];
+    let few_kinds = [
+        Plant::new("schedules written", kind, written(all_but_one.0), &[]),
+        Plant::new("texts read", kind, texts_read(all_but_one.1), &[]),
+    ];
+    for mut plant in few_kinds {
+        check_kinds(&mut plant.summary, plant.part, &plant.outcome);
+        faults.push(plant);
+    }
     faults
 }
 
@@ -245,6 +282,39 @@ fn in_calls() -> Vec<Plant> {
 fn in_crash_counts() -> Vec<Plant> {
     let of_count = |(name, count): (&'static str, wrong::Count)| counted(name, &count);
     ENDS.into_iter().map(of_count).collect()
+}
+
+/// The wrong writers that document 02's K2 invites.
+fn in_writes() -> Vec<Plant> {
+    let of_text = |(name, text): (&'static str, Text)| written(name, &files::writing(text));
+    let of_writer = |(name, write): (&'static str, WriteBy)| written(name, &write);
+    let mut plants: Vec<Plant> = TEXTS.into_iter().map(of_text).collect();
+    plants.extend(BUFFERS.into_iter().chain(QUESTIONS).map(of_writer));
+    plants
+}
+
+/// The wrong readers that it invites.
+fn in_reads() -> Vec<Plant> {
+    let of_reader = |(name, wrong): (&'static str, ReadBy)| read(name, &wrong);
+    let readers = ACCEPTED.into_iter().chain(files::TAKEN);
+    readers.chain(files::REFUSED).map(of_reader).collect()
+}
+
+/// Those of the wrong writers that show in a text or behind it, with the right reader; and with the right writer the
+/// wrong readers of accepted texts, and those that take more texts.
+fn in_trips() -> Vec<Plant> {
+    let (right_write, right_read): (WriteBy, ReadBy) = (writes::by_reference, reads::by_reference);
+    let of_text = |(name, text): (&'static str, Text)| {
+        let write = files::writing(text);
+        tripped(name, &write, &right_read)
+    };
+    let of_writer = |(name, write): (&'static str, WriteBy)| tripped(name, &write, &right_read);
+    let of_reader = |(name, read): (&'static str, ReadBy)| tripped(name, &right_write, &read);
+    let mut plants: Vec<Plant> = TEXTS.into_iter().map(of_text).collect();
+    plants.extend(BUFFERS.into_iter().take(IN_LONGER).map(of_writer));
+    let readers = ACCEPTED.into_iter().chain(files::TAKEN);
+    plants.extend(readers.map(of_reader));
+    plants
 }
 
 fn in_promises() -> Vec<Plant> {
@@ -447,6 +517,33 @@ fn counted_times(name: &'static str, count: u64, count_crashes: CountCrashes) ->
     let outcome = crashes::compare(SEED, count, count_crashes);
     let mut plant = Plant::new("counts of crashes", name, outcome, &[]);
     check_lengths(&mut plant.summary, &plant.outcome);
+    plant
+}
+
+fn written(name: &'static str, write: Write) -> Plant {
+    let outcome = writes::compare(SEED, WRITES, write);
+    let mut plant = Plant::new("schedules written", name, outcome, &writes::NUMBERS);
+    check_kinds(&mut plant.summary, plant.part, &plant.outcome);
+    plant
+}
+
+fn read(name: &'static str, read: Read) -> Plant {
+    let outcome = reads::compare(SEED, READS, read);
+    let mut plant = Plant::new("texts read", name, outcome, &reads::NUMBERS);
+    check_kinds(&mut plant.summary, plant.part, &plant.outcome);
+    plant
+}
+
+fn tripped(name: &'static str, write: Write, read: Read) -> Plant {
+    tripped_times(name, SIZES, write, read)
+}
+
+/// The same over so many round trips, which have to be of all sizes and kinds.
+fn tripped_times(name: &'static str, count: u64, write: Write, read: Read) -> Plant {
+    let outcome = trips::compare(SEED, count, write, read);
+    let mut plant = Plant::new("round trips", name, outcome, &[]);
+    check_sizes(&mut plant.summary, plant.part, &plant.outcome);
+    check_kinds(&mut plant.summary, plant.part, &plant.outcome);
     plant
 }
 

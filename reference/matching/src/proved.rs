@@ -6,6 +6,7 @@ use reference::run::Counts;
 use reference::schedule::Schedule;
 
 use crate::members::{Machine, State};
+use crate::reads::{Numbers, Tables};
 
 // The libraries and the reference take the same clusters. Their sets have the same type, or no reach could be passed.
 const _: () = assert!(fcwfa::LARGEST == reference::LARGEST);
@@ -40,6 +41,30 @@ pub fn count_crashes(t: usize, crashes: &[u8]) -> Result<CrashCount, u8> {
         count: counted.count,
         looked_at: counted.looked_at,
     })
+}
+
+/// The writer of a schedule's text.
+pub fn write_schedule(schedule: &Schedule, buffer: &mut [u8], used: &mut usize) -> Result<(), u8> {
+    bytes::write_schedule(
+        schedule.n,
+        schedule.t,
+        &schedule.votes,
+        &schedule.crashes,
+        &schedule.reaches,
+        buffer,
+        used,
+    )
+}
+
+/// The reader of a text.
+pub fn read_schedule(text: &[u8], tables: &mut Tables, numbers: &mut Numbers) -> Result<(), u8> {
+    bytes::read_schedule(
+        text,
+        &mut tables.votes,
+        &mut tables.crashes,
+        &mut tables.reaches,
+        numbers,
+    )
 }
 
 /// The member's machine.

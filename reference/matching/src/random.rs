@@ -40,6 +40,14 @@ impl Random {
         (self.next() >> 56) as u8
     }
 
+    /// So many bytes, each of which may be any.
+    pub fn bytes(&mut self, length: usize) -> Vec<u8> {
+        let eight = (0..length)
+            .step_by(8)
+            .flat_map(|_| self.next().to_le_bytes());
+        eight.take(length).collect()
+    }
+
     /// Any number at all; small ones, sizes of a cluster with a higher bit, and the largest ones often.
     pub fn any_size(&mut self) -> usize {
         match self.below(4) {

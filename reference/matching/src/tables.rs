@@ -75,9 +75,7 @@ pub fn compare(seed: u64, count: u64, simulate: Simulate) -> Outcome {
     share(count, KINDS.len(), |outcome, case| {
         let mut random = Random::of_case(seed, TABLES, case);
         let (walk, kind) = (case as usize / KINDS.len(), case as usize % KINDS.len());
-        let mut call = accepted_call(&mut random, walked(&sizes, walk));
-        let (_, change) = KINDS[kind];
-        change(&mut random, &mut call);
+        let call = call_of_kind(&mut random, walked(&sizes, walk), kind);
         let expected = call.answer(&by_reference);
         outcome.count(kind, expected.counts.err());
         if expected.counts.is_ok() {
@@ -86,6 +84,14 @@ pub fn compare(seed: u64, count: u64, simulate: Simulate) -> Outcome {
         let found = call.answer(simulate);
         compare_answers(outcome, case, &call, &expected, &found);
     })
+}
+
+/// A call of a kind, made of an accepted one with these n and t.
+pub fn call_of_kind(random: &mut Random, size: (usize, usize), kind: usize) -> Call {
+    let mut call = accepted_call(random, size);
+    let (_, change) = KINDS[kind];
+    change(random, &mut call);
+    call
 }
 
 /// An accepted call with anything in the answer tables.
@@ -121,6 +127,12 @@ pub const KINDS: [(&str, Change); 15] = [
     ("f above t and a process wrong", too_many_and_wrong),
     ("several changes", several),
 ];
+
+/// How many of the kinds change nothing; they are the first ones.
+pub const ACCEPTED: usize = 2;
+
+/// The place of the kind "f above t".
+pub const F_ABOVE_T: usize = 12;
 
 /// Two or three changes of any kind but this one, which is the last.
 fn several(random: &mut Random, call: &mut Call) {

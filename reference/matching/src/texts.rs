@@ -81,7 +81,7 @@ fn compare(
 }
 
 /// Bytes as lines to read, each with its LF; bytes that aren't letters are written as Rust writes them.
-fn show(bytes: &[u8]) -> String {
+pub fn show(bytes: &[u8]) -> String {
     bytes
         .split_inclusive(|byte| *byte == b'\n')
         .map(|line| format!("  {}\n", line.escape_ascii()))

@@ -4,9 +4,10 @@ use std::path::Path;
 
 use crate::arguments::Arguments;
 use crate::outcome::Outcome;
-use crate::proved::{count_crashes, simulate, Proved};
+use crate::proved::{count_crashes, read_schedule, simulate, write_schedule, Proved};
 use crate::summary::{equality_words, print_part, setting_words, Summary};
-use crate::{crashes, damage, generate, members, program, runs, small, tables, texts};
+use crate::{crashes, damage, generate, members, program, reads, runs, small, tables, texts};
+use crate::{trips, writes};
 
 /// Does everything that the arguments ask for, prints what is found, and gives the sum.
 pub fn run(arguments: &Arguments) -> Summary {
@@ -27,6 +28,9 @@ pub fn run(arguments: &Arguments) -> Summary {
     for seed in &arguments.seeds {
         match_tables(&mut summary, *seed, arguments.tables);
         match_counts(&mut summary, *seed, arguments.counts);
+        match_writes(&mut summary, *seed, arguments.writes);
+        match_reads(&mut summary, *seed, arguments.reads);
+        match_trips(&mut summary, *seed, arguments.trips);
         match_members(&mut summary, *seed, arguments.members);
         match_runs(&mut summary, *seed, arguments.runs);
     }
@@ -153,6 +157,50 @@ pub fn check_lengths(summary: &mut Summary, outcome: &Outcome) {
         summary.fault(format!(
             "crashes counted in tables of {met} lengths, not {all}"
         ));
+    }
+}
+
+fn match_writes(summary: &mut Summary, seed: u64, count: u64) {
+    if asked("schedules written", count) {
+        let outcome = writes::compare(seed, count, &write_schedule);
+        let heading = format!("schedules written, seed {seed}, {}", sizes_met(&outcome));
+        let names = writes::names();
+        add(summary, &heading, &names, &outcome, &writes::NUMBERS);
+        check_sizes(summary, "schedules written", &outcome);
+        check_kinds(summary, "schedules written", &outcome);
+    }
+}
+
+fn match_reads(summary: &mut Summary, seed: u64, count: u64) {
+    if asked("texts read", count) {
+        let outcome = reads::compare(seed, count, &read_schedule);
+        let heading = format!("texts read, seed {seed}, {}", sizes_met(&outcome));
+        let names = reads::names();
+        add(summary, &heading, &names, &outcome, &reads::NUMBERS);
+        check_sizes(summary, "texts read", &outcome);
+        check_kinds(summary, "texts read", &outcome);
+    }
+}
+
+fn match_trips(summary: &mut Summary, seed: u64, count: u64) {
+    if asked("round trips", count) {
+        let outcome = trips::compare(seed, count, &write_schedule, &read_schedule);
+        let heading = format!("round trips, seed {seed}, {}", sizes_met(&outcome));
+        let names = names(&generate::FAMILIES);
+        add(summary, &heading, &names, &outcome, &[]);
+        check_sizes(summary, "round trips", &outcome);
+        check_kinds(summary, "round trips", &outcome);
+    }
+}
+
+/// Each kind of case has to come up.
+pub fn check_kinds(summary: &mut Summary, part: &str, outcome: &Outcome) {
+    let all = outcome.kinds.len();
+    let kinds = outcome.kinds.iter();
+    let met = kinds.filter(|kind| kind.accepted + kind.refused != 0);
+    let met = met.count();
+    if met != all {
+        summary.fault(format!("{part}: only {met} of {all} kinds came up"));
     }
 }
 

@@ -566,13 +566,18 @@ pub fn long_text(text: &[u8]) -> Result<Vec<u8>, String> {
 
 /// CR LF is taken for LF.
 pub fn cr_lf(text: &[u8]) -> Result<Vec<u8>, String> {
+    Ok(answer(&lf_for_cr_lf(text)))
+}
+
+/// A text with LF in place of each CR LF.
+pub fn lf_for_cr_lf(text: &[u8]) -> Vec<u8> {
     let mut plain = text.to_vec();
     let mut k = 0;
     plain.retain(|byte| {
         k += 1;
         *byte != b'\r' || text.get(k) != Some(&b'\n')
     });
-    Ok(answer(&plain))
+    plain
 }
 
 /// No answer to an empty line 1.
