@@ -6,6 +6,7 @@ use Prim.Native.Nat.{ℕ, zero, suc, _+_, _<_}
 use native.Mathlib.Omega.{arith}
 use Rattle.laws.specs.Below.{fold}
 use Rattle.laws.proofs.Counting.{split}
+use Rattle.laws.proofs.Folds.{fold-step}
 use Rattle.lines.specs.Lines.{lf, lineLength, afterLine, afterLines}
 use Rattle.lines.proofs.Endings.{after-lf, after-byte, after-table}
 use Rattle.fields.specs.Decimal.{decimal, field}
@@ -51,8 +52,17 @@ after-process n i vote crash reach rest =
     ∙ after-table n _ (lf ∷ rest) (λ j e. omega arith)
     ∙ after-lf rest
 
--- Lines one after the other, each of which is one line.
 module _ (line : ℕ → List ℕ) where
+  -- No lines, and one more, as a loop that writes them in turn comes to it.
+  pub no-lines : [] ≡ eachLine 0 line
+  unfolding eachLine fold
+  no-lines = refl
+
+  pub one-line : (i : ℕ) → eachLine i line ++ line i ≡ eachLine (i + 1) line
+  unfolding eachLine
+  one-line i = fold-step (λ k before. before ++ line k) [] i (eachLine i line) _ refl refl
+
+  -- Lines one after the other, each of which is one line.
   pub after-each : ((i : ℕ) (rest : List ℕ) → afterLine (line i ++ rest) ≡ rest) → (n : ℕ) (rest : List ℕ) → afterLines n (eachLine n line ++ rest) ≡ rest
   unfolding eachLine fold afterLines
   after-each one zero rest = refl

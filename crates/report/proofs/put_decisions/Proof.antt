@@ -4,11 +4,9 @@ use mathlib.Core.List.{List, [], _++_}
 use Prim.Native.Nat.{ℕ, _+_, _-_, _≤_, _<_}
 use native.Mathlib.Omega.{arith}
 use lib.ListN.{length, getD}
-use Rattle.laws.specs.Below.{fold}
-use Rattle.laws.proofs.Folds.{fold-step}
 use Rattle.laws.proofs.Lists.{read-same}
-use Rattle.text.specs.Written.{eachLine}
 use Rattle.text.specs.Output.{decisionLine, decisionLines}
+use Rattle.text.proofs.Lines.{no-lines, one-line}
 use Rattle.buffer.specs.Buffer.{Writes}
 use Rattle.buffer.proofs.Written.{writes-none, writes-same, writes-more}
 use Rattle.report.proofs.Decisions.{decisions-all}
@@ -23,19 +21,19 @@ abbrev μ-loop : tie.MeasureT-loop
 μ-loop bytes₀ at decisions decided next₀ i₀ bytes next i = length decisions - i
 
 -- the lines of no processes, and of one more
-no-lines : (decisions rounds : List ℕ) → [] ≡ decisionLines 0 decisions rounds
-unfolding decisionLines eachLine fold
-no-lines decisions rounds = refl
+none : (decisions rounds : List ℕ) → [] ≡ decisionLines 0 decisions rounds
+unfolding decisionLines
+none decisions rounds = no-lines (λ j. decisionLine j (getD decisions j 2) (getD rounds j 0))
 
-one-line : (decisions rounds : List ℕ) (i : ℕ) → i < length decisions
+one-more : (decisions rounds : List ℕ) (i : ℕ) → i < length decisions
     → decisionLines i decisions rounds ++ decisionLine i (getD decisions i 0) (getD rounds i 0) ≡ decisionLines (i + 1) decisions rounds
-unfolding decisionLines eachLine
-one-line decisions rounds i l =
+unfolding decisionLines
+one-more decisions rounds i l =
     ap (λ (d : ℕ). decisionLines i decisions rounds ++ decisionLine i d (getD rounds i 0)) (read-same decisions 0 2 i l)
-    ∙ fold-step (λ j before. before ++ decisionLine j (getD decisions j 2) (getD rounds j 0)) [] i (decisionLines i decisions rounds) _ refl refl
+    ∙ one-line (λ j. decisionLine j (getD decisions j 2) (getD rounds j 0)) i
 
 loop-holds : tie.Need-loop-holds Inv-loop μ-loop
-loop-holds c = (omega arith, refl, writes-same (no-lines _ _) (writes-none _ _))
+loop-holds c = (omega arith, refl, writes-same (none _ _) (writes-none _ _))
 
 shared-slice-read-put-decision : tie.Need-shared-slice-read-put-decision Inv-loop μ-loop
 shared-slice-read-put-decision c = omega arith
@@ -59,7 +57,7 @@ loop-again : tie.Need-loop-again Inv-loop μ-loop
 loop-again c =
     let k = c .before .before .before .before .before .before .before in
     let a = k .before .before .before .before .args in
-    (omega arith, omega arith, writes-same (one-line (a .decisions .now) (a .decided .now) (k .loop .i) (omega arith)) (writes-more _ _ (k .loop .inv .2) (c .before .before .put-decision .ensures)))
+    (omega arith, omega arith, writes-same (one-more (a .decisions .now) (a .decided .now) (k .loop .i) (omega arith)) (writes-more _ _ (k .loop .inv .2) (c .before .before .put-decision .ensures)))
 
 same-length : tie.Need-same-length Inv-loop μ-loop
 same-length c = c .before .loop .inv .1

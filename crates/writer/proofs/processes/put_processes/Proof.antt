@@ -1,29 +1,20 @@
 -- `put_processes` meets its contract: after i processes their lines are written. Assumes nothing.
 use mathlib.Core.Path.{_≡_, refl, ap}
-use mathlib.Core.List.{List, [], _++_}
-use Prim.Native.Nat.{ℕ, _+_, _-_, _≤_}
+use mathlib.Core.List.{List}
+use Prim.Native.Nat.{ℕ, _-_, _≤_}
 use native.Mathlib.Omega.{arith}
 use borrow.Author.Needs.{needs}
 use lib.ListN.{length, getD}
-use Rattle.laws.specs.Below.{fold}
-use Rattle.laws.proofs.Folds.{fold-step}
 use Rattle.text.specs.Written.{eachLine, processLine}
+use Rattle.text.proofs.Lines.{no-lines, one-line}
 use Rattle.buffer.specs.Buffer.{Writes}
 use Rattle.buffer.proofs.Written.{writes-none, writes-same, writes-more}
 use Rattle.writer.proofs.processes.put_processes.Statement.{statement}
 use Rattle.writer.proofs.processes.put_processes.Tie as tie
 
--- the lines of i processes, of no process, and of one more
+-- the lines of i processes
 abbrev lines : ℕ → List ℕ → List ℕ → List ℕ → ℕ → List ℕ
 lines n votes crashes reaches i = eachLine i (λ k. processLine n k (getD votes k 0) (getD crashes k 0) (getD reaches k 0))
-
-no-lines : (line : ℕ → List ℕ) → [] ≡ eachLine 0 line
-unfolding eachLine fold
-no-lines line = refl
-
-one-line : (line : ℕ → List ℕ) (i : ℕ) → eachLine i line ++ line i ≡ eachLine (i + 1) line
-unfolding eachLine
-one-line line i = fold-step (λ k before. before ++ line k) [] i (eachLine i line) _ refl refl
 
 abbrev Inv-loop : tie.InvT-loop
 Inv-loop buffer₀ at n votes crashes reaches next₀ i₀ buffer next i =
