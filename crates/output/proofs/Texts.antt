@@ -1,28 +1,22 @@
 -- What is printed for a text that was read: the report of its schedule, or its refusal, is the output of the text, and keeps what is promised of it. Assumes
 -- nothing.
 use mathlib.Core.Path.{_≡_, sym, ap, _∙_, subst}
-use mathlib.Core.Logic.{inl, inr}
 use mathlib.Core.List.{List}
 use mathlib.Core.Bool.{true}
 use Prim.Native.Nat.{ℕ, _-_, _≤_}
 use native.Mathlib.Omega.{arith}
-use borrow.Author.Tests.{eq-eqb}
 use lib.ListN.{length, take, length-append}
-use lib.Seq.{take-at, take-append-seam, length-take-le}
+use lib.Seq.{take-append-seam, length-take-le}
 use Rattle.io.specs.Counts.{Counts}
-use Rattle.laws.specs.Below.{tabulate}
-use Rattle.laws.specs.Answer.{ask, Answer, accepted, refused, answer, andNext}
-use Rattle.laws.proofs.Answer.{valueOr, not-accepted, and-next-passes, and-next-refused, and-next-accepted, and-next-either}
-use Rattle.laws.proofs.Lists.{length-tabulate}
+use Rattle.laws.specs.Answer.{Answer, accepted, refused}
 use Rattle.lines.specs.Lines.{lineOf}
 use Rattle.sets.specs.Largest.{largest}
-use Rattle.schedule.specs.Schedule.{Schedule, scheduleOf}
-use Rattle.schedule.specs.Questions.{tablesOf, question}
+use Rattle.schedule.specs.Schedule.{Schedule}
+use Rattle.schedule.specs.Questions.{question}
 use Rattle.schedule.proofs.Accepted.{question-accepted}
 use Rattle.run.specs.Protocol.{Protocol, fcwfa}
 use Rattle.run.specs.Report.{report}
-use Rattle.text.specs.Forms.{Sizes}
-use Rattle.text.specs.Reading.{longest, onLine, sizesIn, scheduleIn, textQuestions, textAnswer}
+use Rattle.text.specs.Reading.{longest, scheduleIn, textAnswer}
 use Rattle.text.specs.Output.{reportText, refusalText, printed, outputOf}
 use Rattle.text.specs.Facts.{PrintsPromises}
 use Rattle.text.proofs.Accepted as Text

@@ -1,6 +1,5 @@
 -- `process_length` meets its contract: the digits of three numbers are added up, of which the first has at most two and the others at most three. Assumes
 -- nothing.
-use mathlib.Core.Path.{_≡_}
 use Prim.Native.Nat.{_+_, _≤_}
 use native.Mathlib.Omega.{arith}
 use borrow.Author.Needs.{needs}
