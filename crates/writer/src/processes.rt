@@ -1,6 +1,6 @@
 // The lines of the processes.
 ghost use mathlib.Core.Path.{_≡_};
-ghost use Prim.Native.Nat.{_+_, _<_};
+ghost use Prim.Native.Nat.{_<_};
 ghost use lib.ListN.{length, getD};
 ghost use Rattle.text.specs.Written.{eachLine, lettersOf, processLine};
 ghost use Rattle.buffer.specs.Buffer.{Writes};
