@@ -47,6 +47,6 @@ pub fn put_field(buffer: &mut [u8], at: usize, number: usize, end: u8) -> usize
 pub fn digit_count(number: usize) -> usize
     ensures counted { λ r. ⌜ r ≡ digitCount number ⌝ }
 {
-    let mut digits = [0u8; 20];
-    io::decimal(number as u64, &mut digits)
+    let mut spelled = [0u8; 20];
+    io::decimal(number as u64, &mut spelled)
 }
