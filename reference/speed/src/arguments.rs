@@ -9,9 +9,9 @@ speed --help";
 pub fn help() -> String {
     format!(
         "\
-Compares the answers of the limit with those of the reference, then measures the proved simulator and the member's hear
-against both, all in one run on the same schedules, and prints a table for each. It takes about 15 seconds;
-docs/PERFORMANCE.md says how to read the tables.
+Compares the answers of the limit with those of the reference, then measures the proved simulator against both, and the
+member's hear and the writer and the reader of a schedule's text against the reference, all in one run on the same
+schedules, and prints tables of each. It takes about 30 seconds; docs/PERFORMANCE.md says how to read the tables.
 
 {USAGE}
 

@@ -1,4 +1,5 @@
-//! How fast the proved simulator and member are: against the reference, and against a limit.
+//! How fast the proved code is: the simulator against the reference and against a limit, and the member's hear and the writer and the
+//! reader of a schedule's text against the reference.
 //!
 //! `speed` compares the limit's answers with the reference's, then measures all in one run on the same schedules. `speed --check` only
 //! compares. docs/PERFORMANCE.md says how to read what is printed.
@@ -57,6 +58,8 @@ fn main() -> ExitCode {
         tables::by_size();
         tables::by_crashes_borne();
         tables::by_row();
+        tables::by_text_written();
+        tables::by_text_read();
     }
     ExitCode::SUCCESS
 }

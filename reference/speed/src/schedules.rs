@@ -1,4 +1,4 @@
-//! The schedules and rows that are measured.
+//! The schedules, rows and texts that are measured.
 
 use matching::generate::FAMILIES;
 use matching::members::State;
@@ -6,6 +6,7 @@ use matching::random::Random;
 use reference::member::Member;
 use reference::run::run_heard;
 use reference::schedule::Schedule;
+use reference::text::write;
 
 /// How many schedules there are of each size.
 pub const COUNT: usize = 4_096;
@@ -40,4 +41,9 @@ pub fn hearings(schedules: &[Schedule]) -> Vec<Hearing> {
         }));
     }
     hearings
+}
+
+/// The texts of these schedules, in the same order.
+pub fn texts(schedules: &[Schedule]) -> Vec<Vec<u8>> {
+    schedules.iter().map(write).collect()
 }

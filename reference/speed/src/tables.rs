@@ -3,17 +3,19 @@
 use std::hint::black_box;
 use std::iter::successors;
 
-use fcwfa::bytes;
+use fcwfa::{bytes, LONGEST_WRITTEN};
 use matching::members::State;
 use matching::proved;
+use matching::reads::{self, Read, Tables};
 use matching::tables::{by_reference, Simulate};
+use matching::writes::{self, Write};
 use reference::questions::SIZES;
 use reference::schedule::Schedule;
 use reference::LARGEST;
 
 use crate::limit;
 use crate::measure::fastest;
-use crate::schedules::{hearings, spread};
+use crate::schedules::{hearings, spread, texts};
 
 /// The sizes that are measured: the smallest, and each twice the one before, as far as they are possible.
 fn sizes() -> impl Iterator<Item = usize> {
@@ -114,4 +116,67 @@ pub fn by_row() {
             hearings.len()
         );
     }
+}
+
+/// Writes the text of every schedule once, all into the same buffer.
+fn write_all(schedules: &[Schedule], write: Write) {
+    let (mut buffer, mut used) = ([0; LONGEST_WRITTEN], 0);
+    for schedule in schedules {
+        let answer = write(black_box(schedule), &mut buffer, &mut used);
+        black_box(answer).expect("the schedule is accepted");
+        black_box((&buffer, &used));
+    }
+}
+
+/// Reads every text once, all into the same tables.
+fn read_all(texts: &[Vec<u8>], read: Read) {
+    let mut tables = Tables {
+        votes: vec![0; LARGEST],
+        crashes: vec![0; LARGEST],
+        reaches: vec![0; LARGEST],
+    };
+    let mut numbers = [0; 3];
+    for text in texts {
+        let answer = read(black_box(text), &mut tables, &mut numbers);
+        black_box(answer).expect("the text is accepted");
+        black_box((&tables, &numbers));
+    }
+}
+
+/// The writer or the reader, proved and reference, over the texts of the full spread of schedules of each size; `times` gives the
+/// nanoseconds for a text. The last two columns are the mean number of bytes of a text, and the nanoseconds of the proved one for a byte.
+fn by_text(done: &str, times: fn(&[Schedule], &[Vec<u8>]) -> [f64; 2]) {
+    println!();
+    println!("the text of a schedule {done}, over the full spread of schedules (ns)");
+    println!("   n   proved  reference  reference/proved  bytes, mean  proved, a byte");
+    for n in sizes() {
+        let schedules = spread(n);
+        let texts = texts(&schedules);
+        let bytes: usize = texts.iter().map(Vec::len).sum();
+        let length = bytes as f64 / texts.len() as f64;
+        let [proved, reference] = times(&schedules, &texts);
+        println!(
+            "{n:4} {proved:8.0} {reference:10.0} {:17.2} {length:12.1} {:15.3}",
+            reference / proved,
+            proved / length,
+        );
+    }
+}
+
+/// The writer of texts. The buffer is long enough for every text, and is lent again and again.
+pub fn by_text_written() {
+    by_text("written", |schedules, _| {
+        let proved = &mut || write_all(schedules, &proved::write_schedule);
+        let reference = &mut || write_all(schedules, &writes::by_reference);
+        fastest(schedules.len(), [proved, reference])
+    });
+}
+
+/// The reader of texts. The tables are lent again and again.
+pub fn by_text_read() {
+    by_text("read", |_, texts| {
+        let proved = &mut || read_all(texts, &proved::read_schedule);
+        let reference = &mut || read_all(texts, &reads::by_reference);
+        fastest(texts.len(), [proved, reference])
+    });
 }
