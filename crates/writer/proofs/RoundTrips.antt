@@ -20,11 +20,11 @@ use Rattle.text.proofs.Theorem.{accepted-texts, all-read-back}
 use Rattle.reader.specs.Answers.{readAnswer}
 use Rattle.reader.proofs.Texts.{text-accepted, schedule-read, its-schedule, sizes-answered, table-filled}
 use Rattle.writer.specs.Answers.{writeQuestion, writeAnswer}
-use Rattle.writer.specs.RoundTrips.{WriteCall, ReadCall, Wrote, ReadSizes, scheduleRead, Restores, Makes, RoundTrips}
+use Rattle.writer.specs.RoundTrips.{WriterCall, ReaderCall, Wrote, ReadSizes, scheduleRead, Restores, Makes, RoundTrips}
 use Rattle.writer.proofs.Asked.{questions-passed, long-enough}
 
 -- A call that wrote: its schedule is accepted, there was room, and the buffer holds the text with what stood behind it.
-module _ (w : WriteCall) where
+module _ (w : WriterCall) where
   abbrev s : Schedule
   s = w .schedule
 
@@ -52,7 +52,7 @@ module _ (w : WriteCall) where
         bytes = w .promised .text-written ∙ place-given _ _ (w .buffer) z;
       }
 
-restored : (w : WriteCall) (used : ℕ) → Wrote w used → (r : ReadCall) → r .text ≡ take used (w .bufferNow)
+restored : (w : WriterCall) (used : ℕ) → Wrote w used → (r : ReaderCall) → r .text ≡ take used (w .bufferNow)
     → tablesOf largest (length (r .votes)) (length (r .crashes)) (length (r .reaches)) ≡ true → Restores (w .schedule) r
 restored w used wrote r e sized =
     let s = w .schedule in
@@ -74,7 +74,7 @@ restored w used wrote r e sized =
     }
 
 -- A text that was read is that of the schedule in the tables, which is accepted.
-module _ (r : ReadCall) (n t : ℕ) (read : ReadSizes r n t) where
+module _ (r : ReaderCall) (n t : ℕ) (read : ReadSizes r n t) where
   answered : accepted (record { n = n; t = t }) ≡ readAnswer largest longest (r .text) (r .votes) (r .crashes) (r .reaches)
   answered = sym read ∙ r .promised .answered
 
@@ -93,7 +93,7 @@ module _ (r : ReadCall) (n t : ℕ) (read : ReadSizes r n t) where
   its-question : question (scheduleRead r n t) largest true ≡ 0
   its-question = promises .accepted-schedule (r .text) (scheduleRead r n t) read-as
 
-  remade : (w : WriteCall) → w .schedule ≡ scheduleRead r n t → length (r .text) ≤ length (w .buffer) → Makes w (r .text)
+  remade : (w : WriterCall) → w .schedule ≡ scheduleRead r n t → length (r .text) ≤ length (w .buffer) → Makes w (r .text)
   remade w e fits =
       let same : r .text ≡ textOf (w .schedule) = its-text ∙ ap textOf (sym e) in
       let long : length (r .text) ≡ length (textOf (w .schedule)) = ap length same in

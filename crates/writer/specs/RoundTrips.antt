@@ -16,7 +16,7 @@ use Rattle.writer.specs.declared.Writing.{Writing}
 use Rattle.writer.specs.Answers.{writingIs, writeAnswer, WritesSchedule}
 
 -- A call of the writer: the schedule of its tables and the buffer that it was lent, its answer, and the buffer after it.
-pub record WriteCall : Type 0 where
+pub record WriterCall : Type 0 where
   pub schedule : Schedule
   pub buffer : List ℕ
   pub answer : Writing
@@ -24,7 +24,7 @@ pub record WriteCall : Type 0 where
   pub promised : WritesSchedule schedule buffer answer bufferNow
 
 -- A call of the reader: the text and the tables that it was lent, its answer, and the tables after it.
-pub record ReadCall : Type 0 where
+pub record ReaderCall : Type 0 where
   pub text : List ℕ
   pub votes : List ℕ
   pub crashes : List ℕ
@@ -36,19 +36,19 @@ pub record ReadCall : Type 0 where
   pub promised : Reads text votes crashes reaches answer votesNow crashesNow reachesNow
 
 -- it wrote a text of so many bytes
-abbrev pub Wrote : WriteCall → ℕ → Type 0
+abbrev pub Wrote : WriterCall → ℕ → Type 0
 Wrote w used = writingIs (w .answer) ≡ accepted used
 
 -- it read these sizes
-abbrev pub ReadSizes : ReadCall → ℕ → ℕ → Type 0
+abbrev pub ReadSizes : ReaderCall → ℕ → ℕ → Type 0
 ReadSizes r n t = readingIs (r .answer) ≡ accepted (record { n = n; t = t })
 
 -- the schedule of these sizes in the tables' first n entries after it
-abbrev pub scheduleRead : ReadCall → ℕ → ℕ → Schedule
+abbrev pub scheduleRead : ReaderCall → ℕ → ℕ → Schedule
 scheduleRead r n t = scheduleOf n t (take n (r .votesNow)) (take n (r .crashesNow)) (take n (r .reachesNow))
 
 -- "Reading such a file restores n, t and the three tables' first n entries"; what stood behind them in the tables stays
-pub record Restores (s : Schedule) (r : ReadCall) : Type 0 where
+pub record Restores (s : Schedule) (r : ReaderCall) : Type 0 where
   pub sizes : ReadSizes r (s .n) (s .t)
   pub votes : r .votesNow ≡ s .votes ++ drop (s .n) (r .votes)
   pub crashes : r .crashesNow ≡ s .crashes ++ drop (s .n) (r .crashes)
@@ -56,18 +56,18 @@ pub record Restores (s : Schedule) (r : ReadCall) : Type 0 where
   pub schedule : scheduleRead r (s .n) (s .t) ≡ s
 
 -- the writer made this text: as many bytes, and these, with what stood behind them in the buffer
-pub record Makes (w : WriteCall) (text : List ℕ) : Type 0 where
+pub record Makes (w : WriterCall) (text : List ℕ) : Type 0 where
   pub used : Wrote w (length text)
   pub bytes : w .bufferNow ≡ text ++ drop (length text) (w .buffer)
 
 pub record RoundTrips : Type 0 where
   -- what was written is read back into any tables of the reader's size
-  pub restored : (w : WriteCall) (used : ℕ) → Wrote w used
-      → (r : ReadCall) → r .text ≡ take used (w .bufferNow) → tablesOf largest (length (r .votes)) (length (r .crashes)) (length (r .reaches)) ≡ true
+  pub restored : (w : WriterCall) (used : ℕ) → Wrote w used
+      → (r : ReaderCall) → r .text ≡ take used (w .bufferNow) → tablesOf largest (length (r .votes)) (length (r .crashes)) (length (r .reaches)) ≡ true
       → Restores (w .schedule) r
   -- "any accepted text is the one that the writer makes of its schedule", in any buffer with room for it
-  pub remade : (r : ReadCall) (n t : ℕ) → ReadSizes r n t → (w : WriteCall) → w .schedule ≡ scheduleRead r n t → length (r .text) ≤ length (w .buffer) → Makes w (r .text)
+  pub remade : (r : ReaderCall) (n t : ℕ) → ReadSizes r n t → (w : WriterCall) → w .schedule ≡ scheduleRead r n t → length (r .text) ≤ length (w .buffer) → Makes w (r .text)
   -- so two accepted texts with one schedule are the same bytes
-  pub same-text : (a : ReadCall) (n t : ℕ) → ReadSizes a n t → (b : ReadCall) (m u : ℕ) → ReadSizes b m u → scheduleRead a n t ≡ scheduleRead b m u → a .text ≡ b .text
+  pub same-text : (a : ReaderCall) (n t : ℕ) → ReadSizes a n t → (b : ReaderCall) (m u : ℕ) → ReadSizes b m u → scheduleRead a n t ≡ scheduleRead b m u → a .text ≡ b .text
   -- a buffer of 4,692 bytes has room for the text of every accepted schedule
   pub room : (s : Schedule) (buffer : List ℕ) → question s largest true ≡ 0 → 4692 ≤ length buffer → writeAnswer largest s buffer ≡ accepted (length (textOf s))
