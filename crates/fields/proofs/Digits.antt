@@ -3,19 +3,21 @@
 use mathlib.Core.Path.{_≡_, refl, sym, ap, _∙_}
 use mathlib.Core.Logic.{inl, inr}
 use mathlib.Core.List.{List, [], _∷_, _++_, append-assoc}
-use mathlib.Core.Bool.{cond}
+use mathlib.Core.Bool.{cond, true≢false}
 use Prim.Native.Nat.{ℕ, zero, suc, _+_, _-_, _*_, _/_, _%_, _^_, _≤_, _<_}
 use native.Mathlib.Nat.{pow-suc, pow-le-pow-right}
 use native.Mathlib.Omega.{arith}
 use borrow.Author.Tests.{eq-eqb, ne-eqb, lt-ltb, le-ltb}
 use lib.ListN.{length, length-append}
 use lib.Dec.{ltb, eqb}
+use Rattle.laws.specs.Below.{least}
 use Rattle.laws.proofs.Test.{cond-true, cond-false}
 use Rattle.laws.proofs.Counting.{split}
-use Rattle.laws.proofs.Least.{least-is}
+use Rattle.laws.proofs.Least.{least-is, least-before}
 use Rattle.lines.specs.Lines.{afterLine}
 use Rattle.lines.proofs.Endings.{after-byte}
 use Rattle.fields.specs.Decimal.{letter, decimalIn, decimal, digitCount}
+use Rattle.fields.specs.Facts.{DigitCounts}
 
 pub one-place : (steps x : ℕ) → x < 10 → decimalIn steps x ≡ letter x ∷ []
 unfolding decimalIn
@@ -85,29 +87,17 @@ pub digits-long : (x : ℕ) → length (decimal x) ≡ digitCount x
 unfolding decimal
 digits-long x = let p = places-long x x (omega arith) in p .3 ∙ sym (digit-count-is (p .0) x (p .1) (p .2))
 
--- a number below 10 ^ k has at most k digits
-places-short : (steps k x : ℕ) → x < 10 ^ suc k → length (decimalIn steps x) ≤ suc k
-unfolding decimalIn
-places-short zero k x h = omega arith
-places-short (suc steps) zero x h =
-    let one : length (decimalIn (suc steps) x) ≡ 1 = ap length (one-place (suc steps) x h) in
-    omega arith
-places-short (suc steps) (suc k) x h =
-    let high : 10 ^ suc (suc k) ≡ 10 ^ suc k * 10 = pow-suc 10 (suc k) in
-    elim (split 10 x) [
-      | inl a ↦
-          let rest : length (decimalIn steps (x / 10)) ≤ suc k = places-short steps k (x / 10) (omega arith) in
-          let all : length (decimalIn steps (x / 10) ++ (letter (x % 10) ∷ [])) ≡ length (decimalIn steps (x / 10)) + 1 = length-append (decimalIn steps (x / 10)) _ in
-          let same : length (decimalIn (suc steps) x) ≡ length (decimalIn steps (x / 10) ++ (letter (x % 10) ∷ [])) = ap length (cond-false (ltb x 10) _ _ (le-ltb x 10 a)) in
-          omega arith
-      | inr a ↦
-          let one : length (decimalIn (suc steps) x) ≡ 1 = ap length (one-place (suc steps) x a) in
-          omega arith
-    ]
+pub digit-counts : DigitCounts
+digit-counts = record { long = digits-long }
 
+-- a number below 10 ^ k has at most k digits
 pub digits-few : (k x : ℕ) → x < 10 ^ suc k → digitCount x ≤ k + 1
-unfolding decimal
-digits-few k x h = let long = digits-long x in let few = places-short x k x h in omega arith
+unfolding digitCount
+digits-few k x h =
+    elim (split (suc k) (least x (λ j. ltb x (10 ^ suc j)))) [
+      | inl a ↦ absurd (true≢false (sym (lt-ltb x (10 ^ suc k) h) ∙ least-before x (λ j. ltb x (10 ^ suc j)) k (omega arith)))
+      | inr a ↦ omega arith
+    ]
 
 places-on-line : (steps x : ℕ) (rest : List ℕ) → afterLine (decimalIn steps x ++ rest) ≡ afterLine rest
 unfolding decimalIn

@@ -23,8 +23,7 @@ decimalIn (suc steps) x = cond (ltb x 10) (letter x ∷ []) (decimalIn steps (x 
 unfoldable pub decimal : ℕ → List ℕ
 decimal x = decimalIn x x
 
--- How many digits x has: the fewest, but at least one, in which it can be written, and in k of them one can write what is below 10 ^ k. Its law is
--- `digits-long : (x : ℕ) → length (decimal x) ≡ digitCount x` (proofs/Digits.antt).
+-- how many digits x has: k + 1 for the least k such that x is below 10 ^ (k + 1)
 unfoldable pub digitCount : ℕ → ℕ
 digitCount x = suc (least x (λ k. ltb x (10 ^ suc k)))
 

@@ -75,3 +75,13 @@ sum-parts k (suc n) p g =
 pub count-ends : (n k : ℕ) (p : ℕ → Bool) → k ≤ n → ((i : ℕ) → k ≤ i → p i ≡ false) → count n p ≡ count k p
 unfolding count
 count-ends n k p l past = sum-ends n k (λ i. bit (p i)) l (λ i b. ap bit (past i b))
+
+-- at most `most` for each place, and one more for each of two tests that it passes
+pub sum-within : (n most : ℕ) (f : ℕ → ℕ) (p q : ℕ → Bool) → ((i : ℕ) → i < n → f i ≤ most + bit (p i) + bit (q i))
+    → sum n f ≤ most * n + count n p + count n q
+unfolding sum count
+sum-within zero most f p q h = omega arith
+sum-within (suc n) most f p q h =
+    let before = sum-within n most f p q (λ i l. h i (omega arith)) in
+    let last = h n (omega arith) in
+    omega arith

@@ -1,7 +1,7 @@
 -- What an accepted text and a refused one say of their questions: an accepted text passed each of them, so what it was read as is an accepted
 -- schedule; a refused text has the number and the line of one that it did not pass. Assumes nothing.
 use mathlib.Core.Path.{_≡_, refl, sym, ap, subst, _∙_}
-use mathlib.Core.Logic.{inl, inr}
+use mathlib.Core.Logic.{inl, inr, _≢_}
 use mathlib.Core.List.{List}
 use mathlib.Core.Bool.{true}
 use Prim.Native.Nat.{ℕ, _+_, _-_, _≤_, _<_}
@@ -12,7 +12,7 @@ use lib.Dec.{leb, eqb}
 use Rattle.laws.specs.Answer.{ask, Answer, accepted, refused, andNext, nextEach}
 use Rattle.laws.proofs.Test.{true-or-false, cond-true, cond-false, within-is, within-low, within-high}
 use Rattle.laws.proofs.Lists.{length-tabulate}
-use Rattle.laws.proofs.Answer.{passed, answer-accepted, answer-refused, not-accepted, and-next-accepted, and-next-passes, and-next-refused, and-next-either, next-each-passed, next-each-passes, next-each-some}
+use Rattle.laws.proofs.Answer.{passed, refused-is, answer-accepted, answer-refused, not-accepted, and-next-accepted, and-next-passes, and-next-refused, and-next-either, next-each-passed, next-each-passes, next-each-some}
 use Rattle.lines.specs.Lines.{afterLines, lineOf}
 use Rattle.lines.proofs.Endings
 use Rattle.fields.specs.Fields.{startsWith}
@@ -48,24 +48,23 @@ abbrev lineNamed : {A : Type 0} → Answer A ℕ → ℕ
 lineNamed (accepted value) = 0
 lineNamed (refused number k) = k
 
-refused-line : (k q number back : ℕ) → onLine k q ≡ refused number back → back ≤ k
+refused-line : (k q number back : ℕ) → onLine k q ≡ refused number back → (number ≢ 0) × (back ≤ k)
 unfolding onLine
 refused-line k q number back e =
-    elim (true-or-false (eqb q 0)) [
-      | inl z ↦ let named : 0 ≡ back = ap lineNamed (sym (answer-accepted q tt k (eqb-true q 0 z)) ∙ e) in omega arith
-      | inr z ↦ let named : k ≡ back = ap lineNamed (sym (answer-refused q tt k (eqb-false q 0 z)) ∙ e) in omega arith
-    ]
+    let r = refused-is q tt k (sym e) in
+    let named : k ≡ back = ap lineNamed (sym (answer-refused q tt k (r .1)) ∙ e) in
+    (λ z. r .1 (sym (r .0) ∙ z), omega arith)
 
--- The line of each refusal of an answer is at most m.
+-- Each refusal of an answer has a number other than 0, and its line is at most m.
 abbrev Below : {A : Type 0} → ℕ → Answer A ℕ → Type 0
-Below m a = (number k : ℕ) → a ≡ refused number k → k ≤ m
+Below m a = (number k : ℕ) → a ≡ refused number k → (number ≢ 0) × (k ≤ m)
 
 module _ {m : ℕ} where
   next-below : {A : Type 0} {p : Answer (Unit {0}) ℕ} {others : Answer A ℕ} → Below m p → Below m others → Below m (andNext p others)
   next-below {p = p} {others = others} a b number k e = elim (and-next-either p others number k e) [ inl h ↦ a number k h | inr h ↦ b number k h ]
 
   line-below : (k q : ℕ) → k ≤ m → Below m (onLine k q)
-  line-below k q h number back e = let l = refused-line k q number back e in omega arith
+  line-below k q h number back e = let r = refused-line k q number back e in let l = r .1 in (r .0, omega arith)
 
 module _ (text : List ℕ) where
   -- What a text is that passed every question.
@@ -195,9 +194,9 @@ module _ (text : List ℕ) where
     }
 
     -- the refusal is that of one of the questions, and each has a line up to n + 4
-    pub line-bound : (number k : ℕ) → textAnswer text limit most ≡ refused number k → k ≤ sizesIn text .n + 4
+    refusals : Below (sizesIn text .n + 4) (textAnswer text limit most)
     unfolding textAnswer textQuestions headQuestions restQuestions tailQuestions
-    line-bound =
+    refusals =
         next-below
         (next-below
         (next-below (line-below _ _ (omega arith))
@@ -208,6 +207,12 @@ module _ (text : List ℕ) where
         (next-below (line-below _ _ (omega arith))
         (line-below _ _ (omega arith)))))
         (λ number k e. absurd (not-accepted (sym e)))
+
+    pub line-bound : (number k : ℕ) → textAnswer text limit most ≡ refused number k → k ≤ sizesIn text .n + 4
+    line-bound number k e = refusals number k e .1
+
+    pub numbered : (number k : ℕ) → textAnswer text limit most ≡ refused number k → number ≢ 0
+    numbered number k e = refusals number k e .0
 
     -- a text that is too long is refused on line 0
     pub line-short : (number k : ℕ) → textAnswer text limit most ≡ refused number k → length (lineOf k text) ≤ most

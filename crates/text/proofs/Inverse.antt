@@ -15,7 +15,7 @@ use Rattle.fields.specs.Found.{Found, found, wrong}
 use Rattle.fields.proofs.Written.{started}
 use Rattle.schedule.specs.Schedule.{Schedule, voteOf, crashOf, reachOf}
 use Rattle.text.specs.Forms.{sizesHeading, processesHeading, sizesAt, entryAt}
-use Rattle.text.specs.Written.{eachLine, sizesLine, processLine, textOf}
+use Rattle.text.specs.Written.{eachLine, sizesLine, processLine, processLines, textOf}
 use Rattle.text.specs.Reading.{isFound, valueOr, sizesIn, entryIn, scheduleIn, textAnswer}
 use Rattle.text.proofs.Accepted.{Passed, text-passed}
 use Rattle.text.proofs.Lines.{after-sizes-heading, after-processes-heading, after-sizes, after-process}
@@ -75,7 +75,7 @@ module _ (text : List ℕ) where
         ∙ sym (append-assoc (eachLine k lineFor) (lineFor k) (afterLines (suc k + 3) text))
 
     text-is : text ≡ textOf (scheduleIn text)
-    unfolding textOf scheduleIn
+    unfolding processLines textOf scheduleIn
     text-is =
         let n = sizesIn text .n in
         let nothing = p .nothing-after in

@@ -58,9 +58,9 @@ module _ (line : ℕ → List ℕ) where
   unfolding eachLine fold
   no-lines = refl
 
-  pub one-line : (i : ℕ) → eachLine i line ++ line i ≡ eachLine (i + 1) line
+  pub one-more-line : (i : ℕ) → eachLine i line ++ line i ≡ eachLine (i + 1) line
   unfolding eachLine
-  one-line i = fold-step (λ k before. before ++ line k) [] i (eachLine i line) _ refl refl
+  one-more-line i = fold-step (λ k before. before ++ line k) [] i (eachLine i line) _ refl refl
 
   -- Lines one after the other, each of which is one line.
   pub after-each : ((i : ℕ) (rest : List ℕ) → afterLine (line i ++ rest) ≡ rest) → (n : ℕ) (rest : List ℕ) → afterLines n (eachLine n line ++ rest) ≡ rest

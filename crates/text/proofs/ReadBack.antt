@@ -17,7 +17,7 @@ use Rattle.schedule.specs.Schedule.{Schedule, scheduleOf, voteOf, crashOf, reac
 use Rattle.schedule.specs.Questions.{question, processQuestion, Accepted}
 use Rattle.schedule.proofs.Accepted.{question-accepted, process-rules-question}
 use Rattle.text.specs.Forms.{sizesHeading, processesHeading, Sizes, sizesAt, Entry, entryAt}
-use Rattle.text.specs.Written.{eachLine, sizesLine, processLine, textOf}
+use Rattle.text.specs.Written.{eachLine, sizesLine, processLine, processLines, textOf}
 use Rattle.text.specs.Reading.{isFound, valueOr, sizesIn, entryIn, scheduleIn, textAnswer}
 use Rattle.text.proofs.Accepted.{Passed, passes-text}
 use Rattle.text.proofs.Lines.{after-sizes-heading, after-processes-heading, after-sizes, after-process, after-each, each-at}
@@ -36,7 +36,7 @@ module _ (s : Schedule) where
 
   -- What stands after each of the first three lines, and at line 4 + i.
   after-1 : afterLines 1 (textOf s) ≡ sizesLine (s .n) (s .t) ++ (processesHeading ++ eachLine (s .n) lineFor)
-  unfolding textOf afterLines
+  unfolding processLines textOf afterLines
   after-1 = after-sizes-heading _
 
   after-2 : afterLines 2 (textOf s) ≡ processesHeading ++ eachLine (s .n) lineFor

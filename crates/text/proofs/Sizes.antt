@@ -1,7 +1,8 @@
--- The length of a text: that of its lines, and that of a line's fields. Lines 1 and 3 have 4 and 20 bytes, and line 2 has at most 6. The line of a process has n + 5 bytes and the digits of its
--- number and of its crash round: n + 7 bytes where each of the two has one digit. A second digit is there at most for the numbers from 10 on, which
--- are n - 9 (or none), and for the crash rounds other than 0, which are at most t. So the text of an accepted schedule has at most
--- 30 + (n + 7) * n + (n - 9) + t bytes, and where n is at most 64, and so t at most 63, at most 30 + 4,544 + 55 + 63 = 4,692. Assumes nothing.
+-- The length of a text: that of its lines, and that of a line's fields. Lines 1 and 3 have 4 and 20 bytes, and line 2 has at most 6. The line of a
+-- process has n + 5 bytes and the digits of its number and of its crash round: n + 7 bytes where each of the two has one digit. A second digit is there at
+-- most for the numbers from 10 on, which are n - 9 (or none), and for the crash rounds other than 0, which are at most t. So the text of an accepted
+-- schedule has at most 30 + (n + 7) * n + (n - 9) + t bytes, and where n is at most 64, and so t at most 63, at most 30 + 4,544 + 55 + 63 = 4,692. Assumes
+-- nothing.
 use mathlib.Core.Path.{_≡_, refl}
 use mathlib.Core.Logic.{inl, inr}
 use mathlib.Core.List.{List, [], _∷_}
@@ -15,7 +16,7 @@ use lib.Dec.{leb, eqb}
 use Rattle.laws.specs.Below.{fold, bit, sum, count}
 use Rattle.laws.proofs.Below.{bit-high}
 use Rattle.laws.proofs.Counting.{split}
-use Rattle.laws.proofs.Sums.{sum-same, sum-high}
+use Rattle.laws.proofs.Sums.{sum-same, sum-high, sum-within}
 use Rattle.lines.specs.Lines.{lf}
 use Rattle.fields.specs.Decimal.{decimal, digitCount, field}
 use Rattle.fields.specs.Fields.{space}
@@ -23,7 +24,7 @@ use Rattle.fields.proofs.Digits.{digits-long, digits-few}
 use Rattle.sets.specs.Largest.{largest}
 use Rattle.schedule.specs.Schedule.{Schedule, voteOf, crashOf, reachOf, everCrashes, crashesIn}
 use Rattle.schedule.specs.Questions.{Accepted}
-use Rattle.text.specs.Written.{eachLine, sizesLine, processLine, textOf, processLength, textLength}
+use Rattle.text.specs.Written.{eachLine, sizesLine, processLine, processLines, textOf, longestWritten, processLength, textLength}
 use Rattle.text.proofs.Letters.{letters-long}
 
 -- a field: the digits of its number and the byte that ends it
@@ -50,7 +51,7 @@ process-long n i vote crash reach =
     simp length-append (omega arith)
 
 pub text-long : (s : Schedule) → length (textOf s) ≡ textLength (s .n) (s .t) (s .votes) (s .crashes)
-unfolding textOf textLength sizesLine
+unfolding processLines textOf textLength sizesLine
 text-long s =
     let n = field-long (s .n) space in
     let t = field-long (s .t) lf in
@@ -93,16 +94,6 @@ process-short n i vote crash hi hv hc =
     let c = digits-second crash (everCrashes crash) hc (λ e. let z = eqb-true crash 0 (not-false (eqb crash 0) e) in omega arith) in
     omega arith
 
--- at most `most` for each place, and one more for each of two tests that it passes
-sum-within : (n most : ℕ) (f : ℕ → ℕ) (p q : ℕ → Bool) → ((i : ℕ) → i < n → f i ≤ most + bit (p i) + bit (q i))
-    → sum n f ≤ most * n + count n p + count n q
-unfolding sum count
-sum-within zero most f p q h = omega arith
-sum-within (suc n) most f p q h =
-    let before = sum-within n most f p q (λ i l. h i (omega arith)) in
-    let last = h n (omega arith) in
-    omega arith
-
 pub each-short : (n most : ℕ) (line : ℕ → List ℕ) → ((i : ℕ) → i < n → length (line i) ≤ most) → length (eachLine n line) ≤ most * n
 each-short n most line h = let all = each-long n line in let high = sum-high n most (λ i. length (line i)) h in omega arith
 
@@ -128,7 +119,7 @@ module _ (s : Schedule) (limit : ℕ) (ok : Accepted s limit true) (high : limit
       let numbers = second-digits (s .n) in
       omega arith
 
-pub text-short : (s : Schedule) → Accepted s largest true → length (textOf s) ≤ 4692
+pub text-short : (s : Schedule) → Accepted s largest true → length (textOf s) ≤ longestWritten
 text-short s ok =
     let long = text-long s in
     let all = text-within s largest ok (omega arith) in

@@ -14,7 +14,7 @@ use Rattle.run.specs.Report.{Report, report}
 use Rattle.text.specs.Reading.{longest, textAnswer}
 use Rattle.text.specs.Output.{reportText, refusalText, printed, outputOf}
 use Rattle.text.specs.Facts.{SaysTheSame, TextPromises, OutputPromises, PrintedKeepsPromises, TextLengths, AllReadBack}
-use Rattle.text.proofs.Accepted.{accepted-schedule, line-bound, line-short, prints-promises}
+use Rattle.text.proofs.Accepted.{accepted-schedule, line-bound, line-short, numbered, prints-promises}
 use Rattle.text.proofs.Inverse.{written}
 use Rattle.text.proofs.ReadBack.{reads-back}
 use Rattle.text.proofs.Sizes.{text-long, text-short}
@@ -27,6 +27,7 @@ accepted-texts limit most high = record {
   reads-back = reads-back limit most high;
   line-bound = λ text. line-bound text limit most;
   line-short = λ text. line-short text limit most;
+  numbered = λ text. numbered text limit most;
 }
 
 module _ (P : Protocol) (limit most : ℕ) where

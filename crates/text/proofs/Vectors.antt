@@ -21,7 +21,7 @@ use Rattle.schedule.specs.Questions.{reachRight, entryQuestion, tablesOf, quest
 use Rattle.run.specs.Run.{completesRound, isHeard, delivered, codeHeard, rowOf, stateAfter, nextState, played, opened, statesAfter, final}
 use Rattle.run.specs.Report.{sentBy, messages, decisionOf, ahead, before, firstWith, firstOf, lastOf}
 use Rattle.text.specs.Forms.{sizesAt, entryAt}
-use Rattle.text.specs.Written.{eachLine, sizesLine, lettersOf, processLine, textOf}
+use Rattle.text.specs.Written.{eachLine, sizesLine, lettersOf, processLine, processLines, textOf, longestWritten}
 use Rattle.text.specs.Reading.{onLine, scheduleIn, entryQuestions, headQuestions, tailQuestions, restQuestions, textQuestions, textAnswer}
 use Rattle.text.specs.Output.{decisionLetter, countsLine, decisionLine, decisionLines, reportText, refusalText, outputOf}
 use Rattle.text.specs.Vectors.{TextVectors, longestSchedule, LengthVectors}
@@ -34,8 +34,8 @@ longest-accepted : question longestSchedule largest true ≡ 0
 unfolding within sum count fold ask andThen askEach names crashesIn reachRight entryQuestion tablesOf question
 longest-accepted = refl
 
-longest-text : length (textOf longestSchedule) ≡ 4692
-unfolding tabulate fold decimalIn decimal field names eachLine sizesLine lettersOf processLine textOf
+longest-text : length (textOf longestSchedule) ≡ longestWritten
+unfolding tabulate fold decimalIn decimal field names eachLine sizesLine lettersOf processLine processLines textOf
 longest-text = refl
 
 pub length-vectors : LengthVectors

@@ -15,7 +15,7 @@ use Rattle.schedule.specs.Questions.{question}
 use Rattle.run.specs.Protocol.{Protocol, fcwfa}
 use Rattle.run.specs.Report.{Report, report}
 use Rattle.run.specs.Given.{GivenPromises}
-use Rattle.text.specs.Written.{textOf, textLength}
+use Rattle.text.specs.Written.{textOf, longestWritten, textLength}
 use Rattle.text.specs.Reading.{longest, sizesIn, textAnswer}
 use Rattle.text.specs.Output.{reportText, refusalText, outputOf}
 
@@ -48,6 +48,8 @@ pub record TextPromises (limit most : ℕ) : Type 0 where
   -- a refused text is refused on line n + 4 at most, where n is the one that was read, and the refused line is not longer than a text may be
   pub line-bound : (text : List ℕ) (number k : ℕ) → textAnswer text limit most ≡ refused number k → k ≤ sizesIn text .n + 4
   pub line-short : (text : List ℕ) (number k : ℕ) → textAnswer text limit most ≡ refused number k → length (lineOf k text) ≤ most
+  -- a refusal has a number other than 0
+  pub numbered : (text : List ℕ) (number k : ℕ) → textAnswer text limit most ≡ refused number k → number ≡ 0 → ⊥
 
 -- What holds of what is printed, under any protocol.
 pub record OutputPromises (P : Protocol) (limit most : ℕ) : Type 1 where
@@ -71,5 +73,5 @@ pub record TextLengths : Type 0 where
 -- The text of an accepted schedule has at most 4,692 bytes, so that it is never too long, and it is read back. Proved in proofs/Theorem.antt:
 -- `all-read-back : AllReadBack`.
 pub record AllReadBack : Type 0 where
-  pub short : (s : Schedule) → question s largest true ≡ 0 → length (textOf s) ≤ 4692
+  pub short : (s : Schedule) → question s largest true ≡ 0 → length (textOf s) ≤ longestWritten
   pub read-back : (s : Schedule) → question s largest true ≡ 0 → textAnswer (textOf s) largest longest ≡ accepted s

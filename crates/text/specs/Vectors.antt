@@ -12,7 +12,7 @@ use Rattle.sets.specs.Largest.{largest}
 use Rattle.schedule.specs.Schedule.{Schedule, scheduleOf}
 use Rattle.schedule.specs.Questions.{question}
 use Rattle.run.specs.Protocol.{fcwfa}
-use Rattle.text.specs.Written.{textOf}
+use Rattle.text.specs.Written.{textOf, longestWritten}
 use Rattle.text.specs.Reading.{longest}
 use Rattle.text.specs.Output.{outputOf}
 
@@ -89,4 +89,4 @@ pub record LengthVectors : Type 0 where
   pub long : (rest : List ℕ) → length rest ≡ 8191 → outputOf fcwfa (lf ∷ rest) largest longest ≡ quoted "refused line\n9 1\n\n"
   -- the bound of `AllReadBack` (specs/Facts.antt) is met: a schedule is accepted whose text has 4,692 bytes
   pub longest-accepted : question longestSchedule largest true ≡ 0
-  pub longest-text : length (textOf longestSchedule) ≡ 4692
+  pub longest-text : length (textOf longestSchedule) ≡ longestWritten

@@ -7,7 +7,7 @@ use Rattle.lines.specs.Lines.{lf}
 use Rattle.fields.specs.Decimal.{letter, digitCount, field}
 use Rattle.fields.specs.Fields.{space}
 use Rattle.sets.specs.Sets.{names}
-use Rattle.schedule.specs.Schedule.{Schedule, voteOf, crashOf, reachOf}
+use Rattle.schedule.specs.Schedule.{Schedule}
 use Rattle.text.specs.Forms.{sizesHeading, processesHeading}
 
 -- the lines of n processes, one after the other
@@ -25,12 +25,20 @@ lettersOf n reach = tabulate n (λ j. letter (bit (names reach j)))
 unfoldable pub processLine : ℕ → ℕ → ℕ → ℕ → ℕ → List ℕ
 processLine n i vote crash reach = field (i + 1) space ++ (field vote space ++ (field crash space ++ (lettersOf n reach ++ (lf ∷ []))))
 
+-- the lines of n processes, from their votes, crash rounds and reaches
+unfoldable pub processLines : ℕ → List ℕ → List ℕ → List ℕ → List ℕ
+processLines n votes crashes reaches = eachLine n (λ i. processLine n i (getD votes i 0) (getD crashes i 0) (getD reaches i 0))
+
 unfoldable pub textOf : Schedule → List ℕ
 textOf s =
     sizesHeading
     ++ (sizesLine (s .n) (s .t)
     ++ (processesHeading
-    ++ eachLine (s .n) (λ i. processLine (s .n) i (voteOf s i) (crashOf s i) (reachOf s i))))
+    ++ processLines (s .n) (s .votes) (s .crashes) (s .reaches)))
+
+-- the longest text of an accepted schedule has so many bytes (`AllReadBack` in specs/Facts.antt, and `LengthVectors`)
+abbrev pub longestWritten : ℕ
+longestWritten = 4692
 
 -- The length of that text, known before a byte of it is written. It is the same whatever the reaches are. That it is the length is `TextLengths`
 -- (specs/Facts.antt).

@@ -6,7 +6,7 @@ use native.Mathlib.Omega.{arith}
 use lib.ListN.{length, getD}
 use Rattle.laws.proofs.Lists.{read-same}
 use Rattle.text.specs.Output.{decisionLine, decisionLines}
-use Rattle.text.proofs.Lines.{no-lines, one-line}
+use Rattle.text.proofs.Lines.{no-lines, one-more-line}
 use Rattle.buffer.specs.Buffer.{Writes}
 use Rattle.buffer.proofs.Written.{writes-none, writes-same, writes-more}
 use Rattle.report.proofs.Decisions.{decisions-all}
@@ -30,7 +30,7 @@ one-more : (decisions rounds : List ℕ) (i : ℕ) → i < length decisions
 unfolding decisionLines
 one-more decisions rounds i l =
     ap (λ (d : ℕ). decisionLines i decisions rounds ++ decisionLine i d (getD rounds i 0)) (read-same decisions 0 2 i l)
-    ∙ one-line (λ j. decisionLine j (getD decisions j 2) (getD rounds j 0)) i
+    ∙ one-more-line (λ j. decisionLine j (getD decisions j 2) (getD rounds j 0)) i
 
 loop-holds : tie.Need-loop-holds Inv-loop μ-loop
 loop-holds c = (omega arith, refl, writes-same (none _ _) (writes-none _ _))

@@ -6,7 +6,7 @@ use native.Mathlib.Omega.{arith}
 use borrow.Author.Needs.{needs}
 use lib.ListN.{length, getD}
 use Rattle.text.specs.Written.{eachLine, processLine}
-use Rattle.text.proofs.Lines.{no-lines, one-line}
+use Rattle.text.proofs.Lines.{no-lines, one-more-line}
 use Rattle.buffer.specs.Buffer.{Writes}
 use Rattle.buffer.proofs.Written.{writes-none, writes-same, writes-more}
 use Rattle.writer.proofs.processes.put_processes.Statement.{statement}
@@ -50,7 +50,7 @@ loop-less c = omega arith
 loop-again : tie.Need-loop-again Inv-loop μ-loop
 loop-again c =
     let k = c .before .before .before .before .before .before .before .before in
-    (omega arith, omega arith, writes-same (one-line _ (k .loop .i)) (writes-more _ _ (k .loop .inv .2) (c .before .before .put-process .ensures)))
+    (omega arith, omega arith, writes-same (one-more-line _ (k .loop .i)) (writes-more _ _ (k .loop .inv .2) (c .before .before .put-process .ensures)))
 
 same-length : tie.Need-same-length Inv-loop μ-loop
 same-length c = c .before .loop .inv .1
