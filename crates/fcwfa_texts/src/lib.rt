@@ -44,7 +44,7 @@ pub extern "C" fn fcwfa_read_schedule(
     reaches: &mut [Set],
     read: &mut [usize; 3],
 ) -> u8
-    ensures read { λ r. ⌜ ReadsNumbers (now (text .entry)) (now (votes .entry)) (now (crashes .entry)) (now (reaches .entry)) (now (read .entry)) r (now (votes .exit)) (now (crashes .exit)) (now (reaches .exit)) (now (read .exit)) ⌝ }
+    ensures tables_read { λ r. ⌜ ReadsNumbers (now (text .entry)) (now (votes .entry)) (now (crashes .entry)) (now (reaches .entry)) (now (read .entry)) r (now (votes .exit)) (now (crashes .exit)) (now (reaches .exit)) (now (read .exit)) ⌝ }
 {
     let answer = reader::read(text, votes, crashes, reaches);
     match answer {

@@ -1,34 +1,36 @@
 -- What the reader's answer says of the text: where it gives n and t, the text is accepted and the first n entries of the tables are its schedule; where it
 -- refuses tables of their size, so is the text refused. And an accepted text is read into tables of their size. Assumes nothing.
 use mathlib.Core.Path.{_≡_, sym, ap, _∙_}
-use mathlib.Core.Logic.{inl, inr}
+use mathlib.Core.Logic.{inl, inr, _≢_}
 use mathlib.Core.List.{List, _++_}
 use mathlib.Core.Bool.{true}
 use Prim.Native.Nat.{ℕ}
 use lib.ListN.{length, take, drop}
 use lib.Seq.{take-at}
 use Rattle.laws.specs.Below.{tabulate}
-use Rattle.laws.specs.Answer.{ask, Answer, accepted, refused, answer, andNext}
+use Rattle.laws.specs.Answer.{Answer, accepted, refused}
 use Rattle.laws.proofs.Answer.{valueOr, not-accepted, and-next-passes, and-next-refused, and-next-accepted, and-next-either}
 use Rattle.laws.proofs.Lists.{length-tabulate}
 use Rattle.schedule.specs.Schedule.{Schedule, scheduleOf}
 use Rattle.schedule.specs.Questions.{tablesOf}
 use Rattle.text.specs.Forms.{Sizes}
-use Rattle.text.specs.Reading.{onLine, sizesIn, scheduleIn, textQuestions, textAnswer}
+use Rattle.text.specs.Reading.{sizesIn, scheduleIn, textQuestions, textAnswer}
+use Rattle.text.proofs.Accepted.{line-numbered, numbered}
 use Rattle.reader.specs.Answers.{givenOr, filled, readQuestions, readAnswer, tableAfter, votesAfter, crashesAfter, reachesAfter}
+use Rattle.reader.proofs.Whole.{asked, asked-text, read-accepted}
 
 same-schedule : {n t n′ t′ : ℕ} {v c m v′ c′ m′ : List ℕ} → n ≡ n′ → t ≡ t′ → v ≡ v′ → c ≡ c′ → m ≡ m′ → scheduleOf n t v c m ≡ scheduleOf n′ t′ v′ c′ m′
 same-schedule en et ev ec em = λ i. record { n = en i; t = et i; votes = ev i; crashes = ec i; reaches = em i }
 
 module _ (limit most : ℕ) (text votes crashes reaches : List ℕ) where
-  abbrev asked : Answer (Unit {0}) ℕ
-  asked = readQuestions limit most text votes crashes reaches
+  abbrev questions : Answer (Unit {0}) ℕ
+  questions = asked text limit most votes crashes reaches
 
   -- n and t are answered
   module _ {n t : ℕ} (e : accepted (record { n = n; t = t }) ≡ readAnswer limit most text votes crashes reaches) where
-    both : (asked ≡ accepted tt) × _≡_ {A = Answer Sizes ℕ} (accepted (sizesIn text)) (accepted (record { n = n; t = t }))
+    both : (questions ≡ accepted tt) × _≡_ {A = Answer Sizes ℕ} (accepted (sizesIn text)) (accepted (record { n = n; t = t }))
     unfolding readAnswer
-    both = and-next-accepted asked (accepted (sizesIn text)) (record { n = n; t = t }) (sym e)
+    both = and-next-accepted questions (accepted (sizesIn text)) (record { n = n; t = t }) (sym e)
 
     sizes : sizesIn text ≡ record { n = n; t = t }
     sizes = ap (valueOr (record { n = 0; t = 0 })) (both .1)
@@ -58,17 +60,29 @@ module _ (limit most : ℕ) (text votes crashes reaches : List ℕ) where
         let fm = front _ _ m (same-n _) hm in
         same-schedule (sym (ap (λ (s : Sizes). s .n) sizes)) (sym (ap (λ (s : Sizes). s .t) sizes)) fv fc fm
 
-  -- The tables are of their size, so only the text is asked about.
+  -- a refusal has a number other than 0
+  pub read-numbered : (number k : ℕ) → readAnswer limit most text votes crashes reaches ≡ refused number k → number ≢ 0
+  unfolding readAnswer readQuestions textAnswer
+  read-numbered number k e =
+      elim (and-next-either questions (accepted (sizesIn text)) number k e) [
+        | inl h ↦
+            elim (and-next-either _ (textQuestions text limit most) number k h) [
+              | inl tables ↦ line-numbered 0 _ number k tables
+              | inr asks ↦ numbered text limit most number k (and-next-refused _ _ number k asks)
+            ]
+        | inr h ↦ absurd (not-accepted (sym h))
+      ]
+
+  -- The tables are of their size.
   module _ (sized : tablesOf limit (length votes) (length crashes) (length reaches) ≡ true) where
-    asked-text : asked ≡ textQuestions text limit most
-    unfolding readQuestions onLine answer ask andNext
-    asked-text = rw sized
+    abbrev text-asked : questions ≡ textQuestions text limit most
+    text-asked = asked-text text limit most votes crashes reaches sized
 
     pub text-refused : {number k : ℕ} → refused number k ≡ readAnswer limit most text votes crashes reaches → textAnswer text limit most ≡ refused number k
     unfolding readAnswer textAnswer
     text-refused {number} {k} e =
-        elim (and-next-either asked (accepted (sizesIn text)) number k (sym e)) [
-          | inl h ↦ and-next-refused _ _ number k (sym asked-text ∙ h)
+        elim (and-next-either questions (accepted (sizesIn text)) number k (sym e)) [
+          | inl h ↦ and-next-refused _ _ number k (sym text-asked ∙ h)
           | inr h ↦ absurd (not-accepted (sym h))
         ]
 
@@ -81,14 +95,14 @@ module _ (limit most : ℕ) (text votes crashes reaches : List ℕ) where
       its-schedule = ap (valueOr s) (parts .1)
 
       pub sizes-answered : readAnswer limit most text votes crashes reaches ≡ accepted (record { n = s .n; t = s .t })
-      unfolding readAnswer scheduleIn
+      unfolding scheduleIn
       sizes-answered =
-          and-next-passes asked (accepted (sizesIn text)) (asked-text ∙ parts .0)
+          sym (read-accepted text limit most votes crashes reaches (text-asked ∙ parts .0))
           ∙ ap (λ (x : Schedule). accepted (record { n = x .n; t = x .t })) its-schedule
 
       -- each table gets what f takes of the schedule
       pub table-filled : (f : Schedule → List ℕ) (lent : List ℕ) → tableAfter limit most text votes crashes reaches (f (scheduleIn text)) lent ≡ f s ++ drop (length (f s)) lent
       unfolding tableAfter
       table-filled f lent =
-          ap (λ (q : Answer (Unit {0}) ℕ). givenOr q (filled (f (scheduleIn text)) lent) lent) (asked-text ∙ parts .0)
+          ap (λ (q : Answer (Unit {0}) ℕ). givenOr q (filled (f (scheduleIn text)) lent) lent) (text-asked ∙ parts .0)
           ∙ ap (λ (x : Schedule). filled (f x) lent) its-schedule

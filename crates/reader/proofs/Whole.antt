@@ -93,7 +93,7 @@ module _ (text : List ℕ) (limit most : ℕ) where
       within-high _ _ _ (passed _ _ _ (omega arith) (sizes .1) .0)
 
   module _ (votes crashes reaches : List ℕ) where
-    abbrev asked : Answer (Unit {0}) ℕ
+    abbrev pub asked : Answer (Unit {0}) ℕ
     asked = readQuestions limit most text votes crashes reaches
 
     pub tables-refuse : tablesOf limit (length votes) (length crashes) (length reaches) ≡ false → asked ≡ refused 3 0
@@ -101,9 +101,14 @@ module _ (text : List ℕ) (limit most : ℕ) where
     tables-refuse h = rw h
 
     module _ (h : tablesOf limit (length votes) (length crashes) (length reaches) ≡ true) where
+      -- the tables are of their size, so only the text is asked about
+      pub asked-text : asked ≡ textQuestions text limit most
+      unfolding readQuestions onLine answer ask andNext
+      asked-text = rw h
+
       parts : asked ≡ andNext (headQuestions text limit most) (restQuestions text)
-      unfolding readQuestions textQuestions onLine answer ask andNext
-      parts = rw h
+      unfolding textQuestions
+      parts = asked-text
 
       pub head-refused : {number k : ℕ} → refused number k ≡ headAnswer → asked ≡ refused number k
       head-refused {number} {k} e = parts ∙ and-next-refused _ _ number k (head-refuses (sym e))

@@ -5,8 +5,8 @@ use mathlib.Core.Path.{_≡_}
 use mathlib.Core.List.{List, [], _∷_, map}
 use Rattle.laws.specs.Answer.{Answer, accepted, refused}
 use Rattle.sets.specs.Largest.{largest}
-use Rattle.schedule.specs.Four.{four, allOne, allZero}
-use Rattle.schedule.specs.Schedule.{Schedule, scheduleOf}
+use Rattle.schedule.specs.Four.{four, allZero, fourVoting1}
+use Rattle.schedule.specs.Schedule.{Schedule}
 use Rattle.run.specs.Protocol.{fcwfa}
 use Rattle.simulator.specs.declared.Counts.{Counts}
 use Rattle.simulator.specs.declared.Simulated.the-variants.{Completed, Refused}
@@ -32,10 +32,6 @@ refuses s decisions rounds number = record {
   roundsNow = rounds;
 }
 
--- "n = 4, t = 3", all votes 1, with these crash rounds and reaches
-abbrev pub marked : List ℕ → List ℕ → Schedule
-marked crashes reaches = scheduleOf 4 3 allOne crashes reaches
-
 -- tables that hold 7 and 8 throughout
 abbrev pub sevens : List ℕ
 sevens = four 7 7 7 7
@@ -47,7 +43,7 @@ abbrev pub calls : List SimulateCall
 calls =
     -- case D: f is 1, first 2, last 3, and "case D 37" messages; "decision 0, 1 or 2 (none), and its round, 0 for none"
     record {
-      schedule = marked (four 1 0 0 0) (four 2 0 0 0);
+      schedule = fourVoting1 (four 1 0 0 0) (four 2 0 0 0);
       decisions = sevens;
       rounds = eights;
       answer = accepted (record { f = 1; first = 2; last = 3; messages = 37 });
@@ -55,10 +51,10 @@ calls =
       roundsNow = four 0 3 3 3;
     } ∷
     -- "two answer tables n long? 3": one too short, one too long
-    refuses (marked allZero allZero) (7 ∷ 7 ∷ 7 ∷ []) eights 3 ∷
-    refuses (marked allZero allZero) sevens (8 ∷ 8 ∷ 8 ∷ 8 ∷ 8 ∷ []) 3 ∷
+    refuses (fourVoting1 allZero allZero) (7 ∷ 7 ∷ 7 ∷ []) eights 3 ∷
+    refuses (fourVoting1 allZero allZero) sevens (8 ∷ 8 ∷ 8 ∷ 8 ∷ 8 ∷ []) 3 ∷
     -- four crashes
-    refuses (marked (four 1 1 1 1) allZero) sevens eights 7 ∷
+    refuses (fourVoting1 (four 1 1 1 1) allZero) sevens eights 7 ∷
     []
 
 -- each of these calls has its answer, and leaves its tables

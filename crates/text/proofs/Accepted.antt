@@ -55,6 +55,9 @@ refused-line k q number back e =
     let named : k ≡ back = ap lineNamed (sym (answer-refused q tt k (r .1)) ∙ e) in
     (λ z. r .1 (sym (r .0) ∙ z), omega arith)
 
+pub line-numbered : (k q number back : ℕ) → onLine k q ≡ refused number back → number ≢ 0
+line-numbered k q number back e = refused-line k q number back e .0
+
 -- Each refusal of an answer has a number other than 0, and its line is at most m.
 abbrev Below : {A : Type 0} → ℕ → Answer A ℕ → Type 0
 Below m a = (number k : ℕ) → a ≡ refused number k → (number ≢ 0) × (k ≤ m)

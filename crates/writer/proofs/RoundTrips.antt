@@ -78,11 +78,11 @@ module _ (r : ReaderCall) (n t : ℕ) (read : ReadSizes r n t) where
   answered : accepted (record { n = n; t = t }) ≡ readAnswer largest longest (r .text) (r .votes) (r .crashes) (r .reaches)
   answered = sym read ∙ r .promised .answered
 
-  its : scheduleRead r n t ≡ scheduleIn (r .text)
-  its = schedule-read largest longest (r .text) (r .votes) (r .crashes) (r .reaches) answered _ _ _ (r .promised .votes-read) (r .promised .crashes-read) (r .promised .reaches-read)
+  its-schedule-in : scheduleRead r n t ≡ scheduleIn (r .text)
+  its-schedule-in = schedule-read largest longest (r .text) (r .votes) (r .crashes) (r .reaches) answered _ _ _ (r .promised .votes-read) (r .promised .crashes-read) (r .promised .reaches-read)
 
   read-as : textAnswer (r .text) largest longest ≡ accepted (scheduleRead r n t)
-  read-as = text-accepted largest longest (r .text) (r .votes) (r .crashes) (r .reaches) answered ∙ ap accepted (sym its)
+  read-as = text-accepted largest longest (r .text) (r .votes) (r .crashes) (r .reaches) answered ∙ ap accepted (sym its-schedule-in)
 
   abbrev promises : TextPromises largest longest
   promises = accepted-texts largest longest (omega arith)
@@ -93,23 +93,14 @@ module _ (r : ReaderCall) (n t : ℕ) (read : ReadSizes r n t) where
   its-question : question (scheduleRead r n t) largest true ≡ 0
   its-question = promises .accepted-schedule (r .text) (scheduleRead r n t) read-as
 
-  remade : (w : WriterCall) → w .schedule ≡ scheduleRead r n t → length (r .text) ≤ length (w .buffer) → Makes w (r .text)
-  remade w e fits =
-      let same : r .text ≡ textOf (w .schedule) = its-text ∙ ap textOf (sym e) in
-      let long : length (r .text) ≡ length (textOf (w .schedule)) = ap length same in
-      let passed = subst (λ (x : Schedule). question x largest true ≡ 0) (sym e) its-question in
-      subst (Makes w) (sym same) (makes w passed (omega arith))
-
-room : (s : Schedule) (buffer : List ℕ) → question s largest true ≡ 0 → 4692 ≤ length buffer → writeAnswer largest s buffer ≡ accepted (length (textOf s))
-unfolding writeAnswer
-room s buffer passed fits =
-    let short = all-read-back .short s passed in
-    answer-accepted _ (length (textOf s)) tt (long-enough largest s buffer passed (omega arith))
-
 pub round-trips : RoundTrips
 round-trips = record {
   restored = restored;
-  remade = remade;
+  remade = λ r n t read w e fits.
+      let same : r .text ≡ textOf (w .schedule) = its-text r n t read ∙ ap textOf (sym e) in
+      let long : length (r .text) ≡ length (textOf (w .schedule)) = ap length same in
+      let passed = subst (λ (x : Schedule). question x largest true ≡ 0) (sym e) (its-question r n t read) in
+      subst (Makes w) (sym same) (makes w passed (omega arith));
   same-text = λ a n t ha b m u hb e. its-text a n t ha ∙ ap textOf e ∙ sym (its-text b m u hb);
-  room = room;
+  room = λ w passed fits. let short = all-read-back .short (w .schedule) passed in makes w passed (omega arith);
 }

@@ -7,12 +7,12 @@ use Rattle.fields.specs.Decimal.{decimalIn, decimal, field}
 use Rattle.sets.specs.Sets.{names}
 use Rattle.schedule.specs.Schedule.{crashesIn}
 use Rattle.schedule.specs.Questions.{tablesOf, reachRight, entryQuestion, question}
-use Rattle.text.specs.Written.{eachLine, sizesLine, lettersOf, processLine, textOf}
+use Rattle.text.specs.Written.{eachLine, sizesLine, lettersOf, processLine, processLines, textOf}
 use Rattle.writer.specs.Answers.{writeQuestion, writeAnswer}
 use Rattle.writer.specs.Vectors.{WriterVectors, WritingCases}
 
 pub writer-vectors : WriterVectors
-unfolding within sum count tabulate fold ask andThen askEach answer placeAfter decimalIn decimal field names crashesIn tablesOf reachRight entryQuestion question eachLine sizesLine lettersOf processLine textOf writeQuestion writeAnswer
+unfolding within sum count tabulate fold ask andThen askEach answer placeAfter decimalIn decimal field names crashesIn tablesOf reachRight entryQuestion question eachLine sizesLine lettersOf processLine processLines textOf writeQuestion writeAnswer
 writer-vectors = record { answered = refl; left = refl }
 
 pub writing-cases : WritingCases

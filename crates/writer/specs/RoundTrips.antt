@@ -9,11 +9,11 @@ use Rattle.laws.specs.Answer.{accepted}
 use Rattle.sets.specs.Largest.{largest}
 use Rattle.schedule.specs.Schedule.{Schedule, scheduleOf}
 use Rattle.schedule.specs.Questions.{tablesOf, question}
-use Rattle.text.specs.Written.{textOf}
+use Rattle.text.specs.Written.{textOf, longestWritten}
 use Rattle.reader.specs.declared.Reading.{Reading}
 use Rattle.reader.specs.Answers.{readingIs, Reads}
 use Rattle.writer.specs.declared.Writing.{Writing}
-use Rattle.writer.specs.Answers.{writingIs, writeAnswer, WritesSchedule}
+use Rattle.writer.specs.Answers.{writingIs, WritesSchedule}
 
 -- A call of the writer: the schedule of its tables and the buffer that it was lent, its answer, and the buffer after it.
 pub record WriterCall : Type 0 where
@@ -47,7 +47,8 @@ ReadSizes r n t = readingIs (r .answer) ≡ accepted (record { n = n; t = t })
 abbrev pub scheduleRead : ReaderCall → ℕ → ℕ → Schedule
 scheduleRead r n t = scheduleOf n t (take n (r .votesNow)) (take n (r .crashesNow)) (take n (r .reachesNow))
 
--- "Reading such a file restores n, t and the three tables' first n entries"; what stood behind them in the tables stays
+-- "Reading such a file restores n, t and the three tables' first n entries": what is answered, each table whole, with what stood behind the n entries, and
+-- so the schedule in the first n entries
 pub record Restores (s : Schedule) (r : ReaderCall) : Type 0 where
   pub sizes : ReadSizes r (s .n) (s .t)
   pub votes : r .votesNow ≡ s .votes ++ drop (s .n) (r .votes)
@@ -69,5 +70,5 @@ pub record RoundTrips : Type 0 where
   pub remade : (r : ReaderCall) (n t : ℕ) → ReadSizes r n t → (w : WriterCall) → w .schedule ≡ scheduleRead r n t → length (r .text) ≤ length (w .buffer) → Makes w (r .text)
   -- so two accepted texts with one schedule are the same bytes
   pub same-text : (a : ReaderCall) (n t : ℕ) → ReadSizes a n t → (b : ReaderCall) (m u : ℕ) → ReadSizes b m u → scheduleRead a n t ≡ scheduleRead b m u → a .text ≡ b .text
-  -- a buffer of 4,692 bytes has room for the text of every accepted schedule
-  pub room : (s : Schedule) (buffer : List ℕ) → question s largest true ≡ 0 → 4692 ≤ length buffer → writeAnswer largest s buffer ≡ accepted (length (textOf s))
+  -- a buffer as long as the longest text has room for that of every accepted schedule
+  pub room : (w : WriterCall) → question (w .schedule) largest true ≡ 0 → longestWritten ≤ length (w .buffer) → Makes w (textOf (w .schedule))

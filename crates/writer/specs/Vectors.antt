@@ -8,7 +8,7 @@ use lib.ListN.{replicate}
 use Rattle.laws.specs.Quoted.{quoted}
 use Rattle.laws.specs.Answer.{Answer, accepted, refused}
 use Rattle.sets.specs.Largest.{largest}
-use Rattle.schedule.specs.Four.{four, allOne, allZero}
+use Rattle.schedule.specs.Four.{four, allOne, allZero, fourVoting1}
 use Rattle.schedule.specs.Schedule.{Schedule, scheduleOf}
 use Rattle.writer.specs.declared.Writing.the-variants.{Written, Refused}
 use Rattle.writer.specs.Answers.{writingIs, writeAnswer, bufferAfter}
@@ -32,13 +32,9 @@ writes s used more text = record { schedule = s; lent = sevens used ++ sevens mo
 abbrev pub refuses : Schedule → ℕ → ℕ → Call
 refuses s size number = record { schedule = s; lent = sevens size; answer = refused number tt; after = sevens size }
 
--- "n = 4, t = 3", all votes 1, with these crash rounds and reaches
-abbrev pub marked : List ℕ → List ℕ → Schedule
-marked crashes reaches = scheduleOf 4 3 allOne crashes reaches
-
 -- case D: process 1 crashes in round 1 and reaches process 2
 abbrev pub caseD : Schedule
-caseD = marked (four 1 0 0 0) (four 2 0 0 0)
+caseD = fourVoting1 (four 1 0 0 0) (four 2 0 0 0)
 
 -- ten processes, of which the first crashes in round 10 and reaches the last, and the last in round 9 and reaches the first
 abbrev pub ten : Schedule
@@ -62,11 +58,11 @@ calls =
     refuses (scheduleOf 4 3 allOne (0 ∷ allZero) allZero) 0 3 ∷
     refuses (scheduleOf 4 3 allOne allZero (0 ∷ 0 ∷ 0 ∷ [])) 0 3 ∷
     refuses (scheduleOf 4 3 (four 1 2 1 1) (four 0 0 5 0) allZero) 0 4 ∷
-    refuses (marked (four 0 5 0 0) (four 0 2 2 0)) 0 5 ∷
-    refuses (marked (four 0 0 1 0) (four 0 0 4 0)) 0 6 ∷
-    refuses (marked (four 1 1 1 1) allZero) 0 7 ∷
+    refuses (fourVoting1 (four 0 5 0 0) (four 0 2 2 0)) 0 5 ∷
+    refuses (fourVoting1 (four 0 0 1 0) (four 0 0 4 0)) 0 6 ∷
+    refuses (fourVoting1 (four 1 1 1 1) allZero) 0 7 ∷
     -- and where it is long enough
-    refuses (marked (four 1 1 1 1) allZero) 80 7 ∷
+    refuses (fourVoting1 (four 1 1 1 1) allZero) 80 7 ∷
     []
 
 -- each of these calls has its answer, and leaves its buffer

@@ -4,7 +4,7 @@
 // whether the buffer is long enough; where each is answered by yes it writes the text that the reader
 // takes and answers its length, and else it answers the number of the first no and leaves the buffer as it
 // was lent. It has no `requires`.
-mod length;
+mod lengths;
 mod processes;
 
 ghost use mathlib.Core.Path.{_≡_};
@@ -13,7 +13,7 @@ ghost use Rattle.schedule.specs.Schedule.{scheduleOf};
 ghost use Rattle.text.specs.Written.{textOf};
 ghost use Rattle.buffer.specs.Buffer.{Writes};
 ghost use Rattle.writer.specs.Answers.{WritesSchedule};
-use crate::length::text_length;
+use crate::lengths::text_length;
 use crate::processes::put_processes;
 use acceptance::question;
 use buffer::put;

@@ -1,8 +1,8 @@
 // The lines of the processes.
 ghost use mathlib.Core.Path.{_≡_};
 ghost use Prim.Native.Nat.{_<_};
-ghost use lib.ListN.{length, getD};
-ghost use Rattle.text.specs.Written.{eachLine, lettersOf, processLine};
+ghost use lib.ListN.{length};
+ghost use Rattle.text.specs.Written.{lettersOf, processLine, processLines};
 ghost use Rattle.buffer.specs.Buffer.{Writes};
 use buffer::put_byte;
 use buffer::put_field;
@@ -55,7 +55,7 @@ pub fn put_processes(
     reaches: &[Set],
 ) -> usize
     requires long { ⌜ (length (now votes) ≡ n) × (length (now crashes) ≡ n) × (length (now reaches) ≡ n) ⌝ }
-    ensures written { λ r. ⌜ Writes (now (buffer .entry)) at (now (buffer .exit)) r (eachLine n (λ i. processLine n i (getD (now (votes .entry)) i 0) (getD (now (crashes .entry)) i 0) (getD (now (reaches .entry)) i 0))) ⌝ }
+    ensures written { λ r. ⌜ Writes (now (buffer .entry)) at (now (buffer .exit)) r (processLines n (now (votes .entry)) (now (crashes .entry)) (now (reaches .entry))) ⌝ }
 {
     let mut next = at;
     let mut i: usize = 0;

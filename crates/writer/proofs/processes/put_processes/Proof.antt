@@ -5,7 +5,7 @@ use Prim.Native.Nat.{ℕ, _-_, _≤_}
 use native.Mathlib.Omega.{arith}
 use borrow.Author.Needs.{needs}
 use lib.ListN.{length, getD}
-use Rattle.text.specs.Written.{eachLine, processLine}
+use Rattle.text.specs.Written.{eachLine, processLine, processLines}
 use Rattle.text.proofs.Lines.{no-lines, one-more-line}
 use Rattle.buffer.specs.Buffer.{Writes}
 use Rattle.buffer.proofs.Written.{writes-none, writes-same, writes-more}
@@ -56,6 +56,7 @@ same-length : tie.Need-same-length Inv-loop μ-loop
 same-length c = c .before .loop .inv .1
 
 returns : tie.Need-returns Inv-loop μ-loop
+unfolding processLines
 returns c =
     let a = c .before .before .before .before .before .before .args in
     let all = ap (lines (a .n) (a .votes .now) (a .crashes .now) (a .reaches .now)) {x = c .before .loop .i} {y = a .n} (omega arith) in

@@ -5,8 +5,8 @@ use native.Mathlib.Omega.{arith}
 use borrow.Author.Needs.{needs}
 use Rattle.fields.proofs.Digits.{digits-few}
 use Rattle.text.specs.Written.{processLength}
-use Rattle.writer.proofs.length.process_length.Statement.{statement}
-use Rattle.writer.proofs.length.process_length.Tie as tie
+use Rattle.writer.proofs.lengths.process_length.Statement.{statement}
+use Rattle.writer.proofs.lengths.process_length.Tie as tie
 
 add-digit-count : tie.Need-add-digit-count
 add-digit-count c = search needs

@@ -10,8 +10,8 @@ use Rattle.laws.proofs.Below.{sum-start, sum-step, sum-end}
 use Rattle.fields.specs.Decimal.{digitCount}
 use Rattle.fields.proofs.Digits.{digits-few}
 use Rattle.text.specs.Written.{processLength, textLength}
-use Rattle.writer.proofs.length.text_length.Statement.{statement}
-use Rattle.writer.proofs.length.text_length.Tie as tie
+use Rattle.writer.proofs.lengths.text_length.Statement.{statement}
+use Rattle.writer.proofs.lengths.text_length.Tie as tie
 
 abbrev Inv-loop : tie.InvT-loop
 Inv-loop n t votes crashes sizes total₀ i₀ total i =
