@@ -222,9 +222,9 @@ uint8_t fcwfa_count_crashes(size_t t,
 /* The longest text that is read, in bytes. A longer one is refused with 8. */
 #define FCWFA_LONGEST_TEXT 8192
 /*
- * The longest text that is written, in bytes: that of no accepted schedule has
- * more, so a buffer of this length is never refused with 18. No text that has
- * more is accepted by fcwfa_read_schedule.
+ * The longest text that is written, in bytes. No accepted schedule has a longer
+ * one, so a buffer of this length is never refused with 18, and
+ * fcwfa_read_schedule accepts no longer text.
  */
 #define FCWFA_LONGEST_WRITTEN 4692
 

@@ -20,6 +20,15 @@ pub type State = [u8; 14];
 /// The decision of a process that made none; its round is 0.
 pub const NO_DECISION: u8 = 2;
 
+/// The place of n, the number of processes, among the three numbers of [`read_schedule`]. It is written if the text is accepted.
+pub const READ_N: usize = 0;
+
+/// The place of t, the number of crashes to bear, among them. It is written if the text is accepted.
+pub const READ_T: usize = 1;
+
+/// The place of the number of the refused line, from 1, or 0 for no line, among them. It is written if the text is refused.
+pub const READ_LINE: usize = 2;
+
 mod foreign {
     use crate::Set;
 
@@ -194,12 +203,12 @@ pub fn write_schedule(
 }
 
 /// Reads the text of a schedule into tables of [`LARGEST`](crate::LARGEST) entries: see [`Schedule`](crate::Schedule). The first n entries
-/// of each get what the text says, and those after them keep their contents. `read` gets n and t in its first two places, and its third
-/// is as it was.
+/// of each get what the text says, and those after them keep their contents. `read` gets n at [`READ_N`] and t at [`READ_T`], and is
+/// as it was at [`READ_LINE`].
 ///
 /// Refusals: 3 (all three tables have [`LARGEST`](crate::LARGEST) entries) and 8, both with line 0; then line by line 9, followed on line 2
 /// by 1, 2 and on the line of a process by 4, 5, 6; 9 with line n + 4, if anything follows line n + 3; 7 with line n + 3. The line's number
-/// is written to the third place of `read`; its first two places and the tables are then as they were.
+/// is written to `read` at [`READ_LINE`]; its other two places and the tables are then as they were.
 pub fn read_schedule(
     text: &[u8],
     votes: &mut [u8],

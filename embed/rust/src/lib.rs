@@ -85,7 +85,8 @@ pub const LARGEST: usize = 64;
 /// The longest text of a schedule that is read, in bytes. A longer one is refused with [`Refusal::TextLength`].
 pub const LONGEST_TEXT: usize = 8192;
 
-/// The longest text of a schedule that is written, in bytes: that of no accepted schedule has more.
+/// The longest text of a schedule that is written, in bytes. No accepted schedule has a longer one, so a buffer of this length is never
+/// refused with [`Refusal::Buffer`], and [`bytes::read_schedule`] accepts no longer text.
 pub const LONGEST_WRITTEN: usize = 4692;
 
 /// A set of processes as a number, such as a reach; bit j - 1 stands for process j. [`Processes`] tells whom it names.

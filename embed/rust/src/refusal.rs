@@ -85,7 +85,7 @@ impl Refusal {
         Refusal::from_number(number).unwrap_or_else(|| unknown("refusal number", number))
     }
 
-    /// Writes what is so.
+    /// Writes what the number means.
     fn write_words(self, f: &mut fmt::Formatter<'_>) -> fmt::Result {
         f.write_str(match self {
             Refusal::N => {

@@ -3,7 +3,7 @@
 use std::fmt;
 use std::str::{from_utf8, FromStr};
 
-use crate::bytes;
+use crate::bytes::{self, READ_LINE, READ_N, READ_T};
 use crate::{simulate, Refusal, Report, Set, TextRefusal, Vote, LARGEST, LONGEST_WRITTEN};
 
 /// A schedule: who votes what, who crashes when, and whom the last message reaches. It was accepted when it was made, so it can always be
@@ -25,7 +25,7 @@ use crate::{simulate, Refusal, Report, Set, TextRefusal, Vote, LARGEST, LONGEST_
 /// // Both ways lead back.
 /// assert_eq!(schedule.to_string().parse(), Ok(schedule.clone()));
 /// assert_eq!(text.parse::<Schedule>()?.to_string(), text);
-/// assert_eq!(Schedule::try_from(text.as_bytes())?, schedule);
+/// assert_eq!(Schedule::from_bytes(text.as_bytes())?, schedule);
 ///
 /// // Without its last LF the last line is not of its form.
 /// let refused = text.trim_end().parse::<Schedule>();
@@ -68,6 +68,28 @@ impl Schedule {
             votes: votes.to_vec(),
             crashes: crashes.to_vec(),
             reaches: reaches.to_vec(),
+        })
+    }
+
+    /// The schedule whose text these bytes are.
+    ///
+    /// Refusals, each with its line: [`Refusal::TextLength`], line 0; then line by line [`Refusal::Form`], followed on line 2 by
+    /// [`Refusal::N`] and [`Refusal::T`], and on the line of a process by [`Refusal::Vote`], [`Refusal::Crash`] and [`Refusal::Reach`]; then
+    /// [`Refusal::Form`], line n + 4, if anything follows line n + 3; and last [`Refusal::Crashes`], line n + 3.
+    pub fn from_bytes(text: &[u8]) -> Result<Schedule, TextRefusal> {
+        let (mut votes, mut crashes, mut reaches) = ([0; LARGEST], [0; LARGEST], [0; LARGEST]);
+        let mut read = [0; 3];
+        let answer = bytes::read_schedule(text, &mut votes, &mut crashes, &mut reaches, &mut read);
+        answer.map_err(|number| TextRefusal {
+            refusal: Refusal::answered(number),
+            line: read[READ_LINE],
+        })?;
+        let n = read[READ_N];
+        Ok(Schedule {
+            t: read[READ_T],
+            votes: votes[..n].iter().copied().map(Vote::answered).collect(),
+            crashes: crashes[..n].to_vec(),
+            reaches: reaches[..n].to_vec(),
         })
     }
 
@@ -120,35 +142,18 @@ impl fmt::Display for Schedule {
 impl TryFrom<&[u8]> for Schedule {
     type Error = TextRefusal;
 
-    /// The schedule of a text.
-    ///
-    /// Refusals, each with its line: [`Refusal::TextLength`], line 0; then line by line [`Refusal::Form`], followed on line 2 by
-    /// [`Refusal::N`] and [`Refusal::T`], and on the line of a process by [`Refusal::Vote`], [`Refusal::Crash`] and [`Refusal::Reach`]; then
-    /// [`Refusal::Form`], line n + 4, if anything follows line n + 3; and last [`Refusal::Crashes`], line n + 3.
+    /// The schedule of a text, as [`Schedule::from_bytes`].
     fn try_from(text: &[u8]) -> Result<Schedule, TextRefusal> {
-        let (mut votes, mut crashes, mut reaches) = ([0; LARGEST], [0; LARGEST], [0; LARGEST]);
-        let mut read = [0; 3];
-        let answer = bytes::read_schedule(text, &mut votes, &mut crashes, &mut reaches, &mut read);
-        let [n, t, line] = read;
-        answer.map_err(|number| TextRefusal {
-            refusal: Refusal::answered(number),
-            line,
-        })?;
-        Ok(Schedule {
-            t,
-            votes: votes[..n].iter().copied().map(Vote::answered).collect(),
-            crashes: crashes[..n].to_vec(),
-            reaches: reaches[..n].to_vec(),
-        })
+        Schedule::from_bytes(text)
     }
 }
 
 impl FromStr for Schedule {
     type Err = TextRefusal;
 
-    /// The schedule of a text, as from its bytes.
+    /// The schedule of a text, as [`Schedule::from_bytes`].
     fn from_str(text: &str) -> Result<Schedule, TextRefusal> {
-        Schedule::try_from(text.as_bytes())
+        Schedule::from_bytes(text.as_bytes())
     }
 }
 

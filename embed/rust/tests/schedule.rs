@@ -57,7 +57,9 @@ fn printed(schedule: &Schedule, report: &Report) -> String {
 fn every_text_is_read_as_reported() {
     let (mut accepted, mut numbers) = (0, HashSet::new());
     for (name, text, report) in texts() {
-        match Schedule::try_from(&text[..]) {
+        let read = Schedule::from_bytes(&text);
+        assert_eq!(Schedule::try_from(&text[..]), read, "{name}");
+        match read {
             Ok(schedule) => {
                 assert_eq!(schedule.to_string().into_bytes(), text, "{name}");
                 assert_eq!(printed(&schedule, &schedule.simulate()), report, "{name}");
@@ -155,7 +157,7 @@ fn schedules_are_equal_exactly_if_their_texts_are() {
 /// Bytes that are no text at all, and the two lengths at the limit.
 #[test]
 fn any_bytes_are_taken() {
-    let read = |text: &[u8]| Schedule::try_from(text);
+    let read = Schedule::from_bytes;
     let refused = |refusal, line| Err(TextRefusal { refusal, line });
     assert_eq!(read(&[]), refused(Refusal::Form, 1));
     assert_eq!(read(&[255; 100]), refused(Refusal::Form, 1));

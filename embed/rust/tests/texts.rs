@@ -1,5 +1,5 @@
 //! The calls on bare texts and tables: what they write, and what they leave as it was.
-use fcwfa::bytes::{read_schedule, write_schedule};
+use fcwfa::bytes::{read_schedule, write_schedule, READ_LINE, READ_N, READ_T};
 use fcwfa::{Set, LARGEST, LONGEST_TEXT, LONGEST_WRITTEN};
 
 /// Case D as its text, and its tables.
@@ -92,7 +92,7 @@ impl Lent {
     /// Reads a text that is refused with this number on this line: nothing changes but the line's number.
     fn refuses(mut self, text: &[u8], number: u8, line: usize) {
         let mut due = self.clone();
-        due.read[2] = line;
+        due.read[READ_LINE] = line;
         assert_eq!(self.read(text), Err(number));
         assert_eq!(self, due);
     }
@@ -105,7 +105,7 @@ fn a_text_is_read_and_the_entries_above_n_are_kept() {
     due.votes[..4].copy_from_slice(&VOTES);
     due.crashes[..4].copy_from_slice(&CRASHES);
     due.reaches[..4].copy_from_slice(&REACHES);
-    due.read[..2].copy_from_slice(&[4, 3]);
+    (due.read[READ_N], due.read[READ_T]) = (4, 3);
     assert_eq!(lent.read(CASE_D), Ok(()));
     assert_eq!(lent, due);
 }

@@ -119,7 +119,7 @@ fn refusals() -> Vec<Refusal> {
     (0..=255).filter_map(Refusal::from_number).collect()
 }
 
-/// Header and crate are of one version, of one size of clusters, of states and of texts.
+/// Header and crate are of one version, of one size of clusters, of states and of texts, and have one order of what is read.
 #[test]
 fn the_header_is_of_this_version() {
     let header = include_str!("../../fcwfa.h");
@@ -132,6 +132,10 @@ fn the_header_is_of_this_version() {
     assert!(header.contains(&format!(
         "#define FCWFA_LONGEST_WRITTEN {LONGEST_WRITTEN}\n"
     )));
+    let (n, t, line) = (bytes::READ_N, bytes::READ_T, bytes::READ_LINE);
+    for (name, place) in [("N", n), ("T", t), ("LINE", line)] {
+        assert!(header.contains(&format!("#define FCWFA_READ_{name} {place}\n")));
+    }
 }
 
 /// The header has the same numbers, with the same names in its own spelling.

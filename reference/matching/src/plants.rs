@@ -114,8 +114,8 @@ pub fn controls() -> Vec<Plant> {
         met_with_equality(NAME, &RULE),
         called(NAME, &by_reference),
         counted(NAME, &crashes::by_reference),
-        written(NAME, &writes::by_reference),
-        read(NAME, &reads::by_reference),
+        schedules_written(NAME, &writes::by_reference),
+        texts_read(NAME, &reads::by_reference),
         tripped(NAME, &writes::by_reference, &reads::by_reference),
         machine(NAME, &RIGHT),
         in_run(NAME, &RIGHT),
@@ -172,17 +172,17 @@ pub fn faults() -> Vec<Plant> {
 fn few_files() -> Vec<Plant> {
     let (write, read): (WriteBy, ReadBy) = (writes::by_reference, reads::by_reference);
     let (never, kind) = ("refusal numbers never met", "one kind left out");
-    let written = |count| writes::compare(SEED, count, &write);
-    let texts_read = |count| reads::compare(SEED, count, &read);
+    let few_writes = |count| writes::compare(SEED, count, &write);
+    let few_reads = |count| reads::compare(SEED, count, &read);
     let all_but_one = (writes::KINDS as u64 - 1, reads::KINDS as u64 - 1);
     let mut faults = vec![
-        Plant::new("schedules written", never, written(3), &writes::NUMBERS),
-        Plant::new("texts read", never, texts_read(3), &reads::NUMBERS),
+        Plant::new("schedules written", never, few_writes(3), &writes::NUMBERS),
+        Plant::new("texts read", never, few_reads(3), &reads::NUMBERS),
         tripped_times("one size left out", SIZES - 1, &write, &read),
     ];
     let few_kinds = [
-        Plant::new("schedules written", kind, written(all_but_one.0), &[]),
-        Plant::new("texts read", kind, texts_read(all_but_one.1), &[]),
+        Plant::new("schedules written", kind, few_writes(all_but_one.0), &[]),
+        Plant::new("texts read", kind, few_reads(all_but_one.1), &[]),
     ];
     for mut plant in few_kinds {
         check_kinds(&mut plant.summary, plant.part, &plant.outcome);
@@ -286,8 +286,9 @@ fn in_crash_counts() -> Vec<Plant> {
 
 /// The wrong writers that document 02's K2 invites.
 fn in_writes() -> Vec<Plant> {
-    let of_text = |(name, text): (&'static str, Text)| written(name, &files::writing(text));
-    let of_writer = |(name, write): (&'static str, WriteBy)| written(name, &write);
+    let of_text =
+        |(name, text): (&'static str, Text)| schedules_written(name, &files::writing(text));
+    let of_writer = |(name, write): (&'static str, WriteBy)| schedules_written(name, &write);
     let mut plants: Vec<Plant> = TEXTS.into_iter().map(of_text).collect();
     plants.extend(BUFFERS.into_iter().chain(QUESTIONS).map(of_writer));
     plants
@@ -295,7 +296,7 @@ fn in_writes() -> Vec<Plant> {
 
 /// The wrong readers that it invites.
 fn in_reads() -> Vec<Plant> {
-    let of_reader = |(name, wrong): (&'static str, ReadBy)| read(name, &wrong);
+    let of_reader = |(name, read): (&'static str, ReadBy)| texts_read(name, &read);
     let readers = ACCEPTED.into_iter().chain(files::TAKEN);
     readers.chain(files::REFUSED).map(of_reader).collect()
 }
@@ -520,14 +521,14 @@ fn counted_times(name: &'static str, count: u64, count_crashes: CountCrashes) ->
     plant
 }
 
-fn written(name: &'static str, write: Write) -> Plant {
+fn schedules_written(name: &'static str, write: Write) -> Plant {
     let outcome = writes::compare(SEED, WRITES, write);
     let mut plant = Plant::new("schedules written", name, outcome, &writes::NUMBERS);
     check_kinds(&mut plant.summary, plant.part, &plant.outcome);
     plant
 }
 
-fn read(name: &'static str, read: Read) -> Plant {
+fn texts_read(name: &'static str, read: Read) -> Plant {
     let outcome = reads::compare(SEED, READS, read);
     let mut plant = Plant::new("texts read", name, outcome, &reads::NUMBERS);
     check_kinds(&mut plant.summary, plant.part, &plant.outcome);

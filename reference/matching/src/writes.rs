@@ -120,7 +120,7 @@ const BUFFERS: [(&str, Length); 10] = [
 ];
 
 /// The places of those that are too short.
-const TOO_SHORT: Range<usize> = 1..5;
+const SHORT_BUFFERS: Range<usize> = 1..5;
 
 /// How many kinds of calls there are: those of buffers, for schedules that are accepted; those of schedules that are
 /// changed as for the calls on tables, with any kind of buffer; and one with two reasons to refuse it, 7 and 18.
@@ -161,7 +161,7 @@ fn of_kind(random: &mut Random, size: (usize, usize), kind: usize) -> (Schedule,
         None => (of_size(random, size), BUFFERS[kind]),
         Some(_) if kind == SEVEN_OR_18 => (
             changed(random, tables::F_ABOVE_T),
-            random.pick(&BUFFERS[TOO_SHORT]),
+            random.pick(&BUFFERS[SHORT_BUFFERS]),
         ),
         Some(change) => (
             changed(random, tables::ACCEPTED + change),
