@@ -29,7 +29,7 @@ unfolding writeAnswer
 told = record {
   written = λ s text used textNow usedNow h.
       let z = sym (h .number-is) in
-      record { answered = ap accepted (h .used-given ∙ place-given _ _ used z) ∙ sym (answer-accepted _ _ tt z); text-written = h .text-written };
+      record { answered = ap accepted (h .used-given ∙ place-given _ _ _ z) ∙ sym (answer-accepted _ _ tt z); text-written = h .text-written };
   not-written = λ s text used number textNow usedNow some h.
       record {
         answered = ap (λ (k : ℕ). refused k tt) (h .number-is) ∙ sym (answer-refused _ _ tt (λ z. some (h .number-is ∙ z)));
