@@ -27,7 +27,7 @@ line-told (refused m k) lent now number some e h = λ i. refused (e i) (getD (h 
 pub told : Told
 unfolding writeAnswer
 told = record {
-  written = λ s text used textNow usedNow h.
+  was-written = λ s text used textNow usedNow h.
       let z = sym (h .number-is) in
       record { answered = ap accepted (h .used-given ∙ place-given _ _ _ z) ∙ sym (answer-accepted _ _ tt z); text-written = h .text-written };
   not-written = λ s text used number textNow usedNow some h.
@@ -35,7 +35,7 @@ told = record {
         answered = ap (λ (k : ℕ). refused k tt) (h .number-is) ∙ sym (answer-refused _ _ tt (λ z. some (h .number-is ∙ z)));
         text-written = h .text-written;
       };
-  read = λ text votes crashes reaches lent v c m now h.
+  was-read = λ text votes crashes reaches lent v c m now h.
       record {
         answered = sizes-told (readAnswer largest longest text votes crashes reaches) lent now (read-numbered largest longest text votes crashes reaches) (h .number-is) (h .read-given);
         votes-read = h .votes-read;

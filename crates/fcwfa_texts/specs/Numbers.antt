@@ -53,13 +53,13 @@ pub record ReadsNumbers (text votes crashes reaches read : List ℕ) (number : �
 -- of the writer or of the reader with that answer, and what `RoundTrips` of the crate `writer` says of those it says of these. Proved in proofs/Told.antt:
 -- `told : Told`.
 pub record Told : Type 0 where
-  pub written : (s : Schedule) (text : List ℕ) (used : ℕ) (textNow : List ℕ) (usedNow : ℕ)
+  pub was-written : (s : Schedule) (text : List ℕ) (used : ℕ) (textNow : List ℕ) (usedNow : ℕ)
       → WritesNumbers s text used 0 textNow usedNow → WritesSchedule s text (Written usedNow) textNow
   pub not-written : (s : Schedule) (text : List ℕ) (used number : ℕ) (textNow : List ℕ) (usedNow : ℕ) → (number ≡ 0 → ⊥)
       → WritesNumbers s text used number textNow usedNow → WritesSchedule s text (Writing.Refused number) textNow
-  pub read : (text votes crashes reaches read votesNow crashesNow reachesNow readNow : List ℕ)
-      → ReadsNumbers text votes crashes reaches read 0 votesNow crashesNow reachesNow readNow
+  pub was-read : (text votes crashes reaches lent votesNow crashesNow reachesNow readNow : List ℕ)
+      → ReadsNumbers text votes crashes reaches lent 0 votesNow crashesNow reachesNow readNow
       → Reads text votes crashes reaches (Read (getD readNow 0 0) (getD readNow 1 0)) votesNow crashesNow reachesNow
-  pub not-read : (text votes crashes reaches read : List ℕ) (number : ℕ) (votesNow crashesNow reachesNow readNow : List ℕ) → (number ≡ 0 → ⊥)
-      → ReadsNumbers text votes crashes reaches read number votesNow crashesNow reachesNow readNow
+  pub not-read : (text votes crashes reaches lent : List ℕ) (number : ℕ) (votesNow crashesNow reachesNow readNow : List ℕ) → (number ≡ 0 → ⊥)
+      → ReadsNumbers text votes crashes reaches lent number votesNow crashesNow reachesNow readNow
       → Reads text votes crashes reaches (Reading.Refused number (getD readNow 2 0)) votesNow crashesNow reachesNow

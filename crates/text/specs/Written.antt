@@ -36,10 +36,6 @@ textOf s =
     ++ (processesHeading
     ++ processLines (s .n) (s .votes) (s .crashes) (s .reaches)))
 
--- the longest text of an accepted schedule has so many bytes (`AllReadBack` in specs/Facts.antt, and `LengthVectors`)
-abbrev pub longestWritten : ℕ
-longestWritten = 4692
-
 -- The length of that text, known before a byte of it is written. It is the same whatever the reaches are. That it is the length is `TextLengths`
 -- (specs/Facts.antt).
 
@@ -54,3 +50,7 @@ textLength n t votes crashes =
     + (digitCount n + digitCount t + 2)
     + length processesHeading
     + sum n (λ i. processLength n i (getD votes i 0) (getD crashes i 0))
+
+-- the longest text of an accepted schedule has so many bytes (`AllReadBack` in specs/Facts.antt, and `LengthVectors`)
+abbrev pub longestWritten : ℕ
+longestWritten = 4692
