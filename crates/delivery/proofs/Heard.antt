@@ -150,8 +150,8 @@ module _ (crashes reaches codes : List ℕ) (r : ℕ) where
           | inr e ↦ others-same j i k (eqb-false k j e)
         ]))
 
-    pub rows-more : {messages : ℕ} {now : List (List ℕ)} → Entered n r j (getD codes j 0) (getD crashes j 0) (getD reaches j 0) grid messages now → RowsSoFar n (j + 1) before now
-    rows-more {now = now} e =
+    pub rows-more : {now : List (List ℕ)} → Entered n r j (getD codes j 0) (getD crashes j 0) (getD reaches j 0) grid now → RowsSoFar n (j + 1) before now
+    rows-more {now} e =
         elim (true-or-false (eqb (getD crashes j 0) 0)) [
           | inl z ↦ unchanged (inl (eqb-true _ _ z))
           | inr z ↦
@@ -171,6 +171,6 @@ module _ (crashes reaches codes : List ℕ) (r : ℕ) where
       rw (← same) (over-again first (over-so h (λ i b. padded-same n _ _ (λ k a. looked-at j i k (omega arith)))))
 
 -- of a crash round that was read from the table
-pub entered-at : {n r j code c reach crash messages : ℕ} {before now : List (List ℕ)} → Entered n r j code c reach before messages now → c ≡ crash
-    → Entered n r j code crash reach before messages now
+pub entered-at : {n r j code c reach crash : ℕ} {before now : List (List ℕ)} → Entered n r j code c reach before now → c ≡ crash
+    → Entered n r j code crash reach before now
 entered-at e same = rw (← same) e

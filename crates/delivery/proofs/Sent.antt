@@ -23,7 +23,6 @@ use Rattle.member.specs.Saying.{nothing}
 use Rattle.run.specs.Run.{completesRound}
 use Rattle.run.specs.Report.{sentBy, messagesOf}
 use Rattle.run.proofs.Rounds.{not-completed, completed, sends-nothing, sends-to-all, sends-to-reach, sends-no-more}
-use Rattle.delivery.specs.Delivery.{Entered}
 use Rattle.delivery.proofs.Heard.{fromCompleting}
 
 both-high : (b : Bool) (x y high : ℕ) → x ≤ high → y ≤ high → cond b x y ≤ high
@@ -126,8 +125,8 @@ speakers-are n f {row} small e =
 pub completing-few : (copies : ℕ) {speaking : ℕ} (p : ℕ → Bool) → copies ≤ largest → speaking ≡ count largest p → copies * speaking ≤ largest * largest
 completing-few copies p small e = mul-le-mul small (le-trans (le-of-eq e) (count-high largest p))
 
-pub crashing-low : {n r j code c reach messages : ℕ} {before after : List (List ℕ)} → Entered n r j code c reach before messages after → reach < 2 ^ largest → messages ≤ largest
-crashing-low {r = r} {code = code} {c} {reach} e low = le-trans (le-of-eq (e .sent)) (sent-few largest 0 r c reach code zero-le low)
+pub crashing-low : (r c reach code : ℕ) {copies : ℕ} → copies ≡ sentBy 0 r c reach code → reach < 2 ^ largest → copies ≤ largest
+crashing-low r c reach code e low = le-trans (le-of-eq e) (sent-few largest 0 r c reach code zero-le low)
 
 -- All of them: n - 1 for each that speaks, and what the crashing senders add.
 module _ (crashes reaches codes : List ℕ) (r : ℕ) where

@@ -3,11 +3,10 @@
 // Who completes the round is heard by all. So every row starts as the codes of those, and then each sender
 // that crashes in the round is entered in the rows of the processes that its reach names.
 ghost use mathlib.Core.Path.{_≡_};
-ghost use mathlib.Core.Bool.{cond, not};
-ghost use lib.Dec.{eqb, ltb};
-ghost use Prim.Native.Nat.{ℕ, _-_, _≤_, _<_, min};
+ghost use mathlib.Core.Bool.{cond};
+ghost use lib.Dec.{ltb};
+ghost use Prim.Native.Nat.{ℕ, _≤_, _<_, min};
 ghost use lib.ListN.{length, getD};
-ghost use Rattle.laws.specs.Below.{count};
 ghost use Rattle.laws.specs.Filled.{Overwritten};
 ghost use Rattle.sets.specs.Largest.{largest};
 ghost use Rattle.sets.specs.Tables.{padded};
@@ -19,7 +18,6 @@ use laws::bit;
 use sets::Set;
 use sets::WIDTH;
 use sets::is_named;
-use sets::ones;
 use sets::set_at;
 use sets::zero_bytes;
 
@@ -82,31 +80,10 @@ pub fn store_row(n: usize, row: [u8; WIDTH], grid: &mut [[u8; WIDTH]])
     }
 }
 
-// How many other processes a cluster of n has: so many copies go out on the wire for a sender that completes
-// the round. There is nobody where n is 0.
-pub fn others(n: usize) -> usize
-    ensures is { λ r. ⌜ r ≡ n - 1 ⌝ }
-{
-    if n == 0 { 0 } else { n - 1 }
-}
-
-// How many codes of a row say something.
-pub fn speakers(row: [u8; WIDTH]) -> usize
-    ensures counted { λ r. ⌜ r ≡ count largest (λ j. not (eqb (getD row j 0) nothing)) ⌝ }
-{
-    let mut speaking: u8 = 0;
-    let mut j: usize = 0;
-    while j < WIDTH {
-        speaking += bit(row[j] != 0);
-        j += 1;
-    }
-    speaking as usize
-}
-
 // Enters a sender that crashes in the round at its place j of the first n rows: its code for the processes
-// that its reach names, and nothing for the others. Answers how many messages it sends so. Most senders
-// do not crash in the round: a reach is read only after the tests of the crash round, so theirs are not. What
-// is heard is looked up by the bit of the reach: a jump that goes by such bits is often foreseen wrongly.
+// that its reach names, and nothing for the others. Most senders do not crash in the round: a reach is read only
+// after the tests of the crash round, so theirs are not. What is heard is looked up by the bit of the reach: a
+// jump that goes by such bits is often foreseen wrongly.
 pub fn enter_crashing(
     n: usize,
     round: u8,
@@ -115,15 +92,15 @@ pub fn enter_crashing(
     crash: u8,
     reaches: &[Set],
     grid: &mut [[u8; WIDTH]],
-) -> usize
+)
     requires size { ⌜ (j < largest) × (n ≤ length (now grid)) ⌝ }
-    ensures entered { λ r. ⌜ Entered n round j code crash (getD (now (reaches .entry)) j 0) (now (grid .entry)) r (now (grid .exit)) ⌝ }
+    ensures entered { λ _. ⌜ Entered n round j code crash (getD (now (reaches .entry)) j 0) (now (grid .entry)) (now (grid .exit)) ⌝ }
 {
     if crash == 0 {
-        return 0;
+        return;
     }
     if crash != round {
-        return 0;
+        return;
     }
     let reach = set_at(reaches, j);
     let heard = [0u8, code];
@@ -132,5 +109,4 @@ pub fn enter_crashing(
         grid[i][j] = heard[bit(is_named(reach, i)) as usize];
         i += 1;
     }
-    if code == 0 { 0 } else { ones(reach) }
 }

@@ -6,7 +6,7 @@ use mathlib.Core.List.{List}
 use Prim.Native.Nat.{ℕ, suc, _+_, _*_, _≤_, _<_}
 use native.Mathlib.Numerals.{add-one}
 use native.Mathlib.Omega.{arith}
-use lib.ListN.{length, getD, length-replicate, getD-replicate, List·getD-eq-default}
+use lib.ListN.{length, getD, replicate, length-replicate, getD-replicate, List·getD-eq-default}
 use lib.Seq.{ext-getD}
 use Rattle.laws.specs.Below.{sum, tabulate}
 use Rattle.laws.specs.Filled.{Overwritten}
@@ -20,104 +20,113 @@ use Rattle.sets.specs.Largest.{largest, fitting}
 use Rattle.sets.specs.Tables.{padded}
 use Rattle.schedule.specs.Schedule.{Schedule, crashOf, reachOf}
 use Rattle.run.specs.Protocol.{Protocol, nobody, byCalls}
-use Rattle.run.specs.Run.{delivered, stateAt, codeSaid, codeHeard, rowOf, stateAfter, nextState, statesAfter, after}
+use Rattle.run.specs.Run.{delivered, heardFrom, stateAt, codeSaid, codeHeard, rowOf, stateAfter, nextState, statesAfter, after}
 use Rattle.run.specs.Report.{sentBy, messagesOf, sentAfter}
 use Rattle.run.specs.Facts.{SilentFrom, OwnAnswers}
 use Rattle.run.proofs.Rounds.{states-long, step-is, who-moves}
-use Rattle.delivery.specs.Delivery.{Delivers}
-use Rattle.execution.specs.Rounds.{noMembers, Opens, HearsRows}
+use Rattle.execution.specs.Rounds.{noMembers, Opens, PlaysRound}
 use Rattle.execution.specs.Ran.{membersAfter, Plays}
-use Rattle.execution.proofs.OneRound.{rowHeard, code-at, hears-codes}
+use Rattle.execution.proofs.OneRound.{code-at, said-start, said-again}
 
 module _ (P : Protocol) (s : Schedule) where
   -- members that stand as after r rounds, with nobody after them
   abbrev pub Stand : ℕ → List Member → Type 0
   Stand r members = Overwritten (s .n) (after P s r) noMembers members
 
-  -- what holds after r rounds of the code, of which there are `last` at most: the members stand as in the run, and its messages are counted
-  pub record Playing (last : ℕ) (members : List Member) (sent-so-far r : ℕ) : Type 0 where
-    pub inside : r ≤ last
+  -- what holds between two rounds of the code, after r of them: the members stand as in the run, the codes are what they say, and the grid has a row for
+  -- each process
+  pub record Between (grid : List (List ℕ)) (codes : List ℕ) (members : List Member) (r : ℕ) : Type 0 where
     pub states : Stand r members
-    pub counted : sent-so-far ≡ sum r (sentAfter P s)
-    pub few : sent-so-far ≤ largest * largest * r
+    pub said : codes ≡ padded (fitting (s .n)) (codeSaid P members)
+    pub room : s .n ≤ length grid
+
+  -- and what was counted in these rounds, of which there are `last` at most
+  pub record Counted (last messages r : ℕ) : Type 0 where
+    pub inside : r ≤ last
+    pub counted : messages ≡ sum r (sentAfter P s)
+    pub few : messages ≤ largest * largest * r
+
+  pub nothing-counted : (last : ℕ) → Counted last 0 0
+  nothing-counted last = record { inside = omega arith; counted = sum-start (sentAfter P s); few = omega arith }
 
   module _ (small : s .n ≤ largest) where
     fits : fitting (s .n) ≡ s .n
     fits = omega arith
 
-    pub starts : {last : ℕ} {members : List Member} → Opens P (fitting (s .n)) (s .t) (s .votes) members → Playing last members 0 0
-    starts f = record {
-      inside = omega arith;
+    pub starts : {grid : List (List ℕ)} {before codes : List ℕ} {members : List Member} → s .n ≤ length grid → Opens P (fitting (s .n)) (s .t) (s .votes) members
+        → before ≡ replicate largest 0 → Overwritten (fitting (s .n)) (codeSaid P members) before codes → Between grid codes members 0
+    starts room f zeros said = record {
       states = over-so (rw fits at f) (λ i l. sym (who-moves P s 0 i l .opens));
-      counted = sum-start (sentAfter P s);
-      few = omega arith;
+      said = said-start (fitting (s .n)) zeros said;
+      room = room;
     }
 
-    -- A round that follows r rounds: the members stand as after these, and say these codes.
-    module _ (r : ℕ) {members : List Member} (codes : List ℕ) (h : Stand r members) (said : codes ≡ padded (fitting (s .n)) (codeSaid P members)) where
+    -- A round that follows r rounds.
+    module _ (r : ℕ) {grid : List (List ℕ)} {codes : List ℕ} {members : List Member} (h : Between grid codes members r) where
       state-at : (i : ℕ) → i < s .n → stateAt members i ≡ stateAt (statesAfter P s r) i
       unfolding after
-      state-at i l = over-at h i nobody l
+      state-at i l = over-at (h .states) i nobody l
 
-      said-at : (j : ℕ) → j < s .n → getD codes j 0 ≡ codeSaid P (statesAfter P s r) j
-      said-at j l = code-at (s .n) (codeSaid P members) (rw fits at said) j l ∙ ap (P .says) (state-at j l)
+      says-same : (j : ℕ) → j < s .n → codeSaid P members j ≡ codeSaid P (statesAfter P s r) j
+      says-same j l = ap (P .says) (state-at j l)
 
-      row-same : (i : ℕ) → rowHeard (s .crashes) (s .reaches) (suc r) (λ j. getD codes j 0) (s .n) i ≡ rowOf P s (suc r) (statesAfter P s r) i
+      -- the codes are what the members say, and there are as many as the largest cluster has
+      pub said-at : (j : ℕ) → j < fitting (s .n) → getD codes j 0 ≡ codeSaid P members j
+      said-at = code-at (fitting (s .n)) (codeSaid P members) (h .said)
+
+      row-same : (i : ℕ) → tabulate (s .n) (heardFrom (s .crashes) (s .reaches) (suc r) (codeSaid P members) i) ≡ rowOf P s (suc r) (statesAfter P s r) i
       unfolding rowOf codeHeard
-      row-same i = tabulate-same (s .n) _ _ (λ j l. ap (delivered (suc r) i (crashOf s j) (reachOf s j)) (said-at j l))
+      row-same i = tabulate-same (s .n) _ _ (λ j l. ap (delivered (suc r) i (crashOf s j) (reachOf s j)) (says-same j l))
 
       next-same : (i : ℕ) → i < s .n
-          → stateAfter P (suc r) (crashOf s i) (stateAt members i) (rowHeard (s .crashes) (s .reaches) (suc r) (λ j. getD codes j 0) (s .n) i) ≡ after P s (suc r) i
+          → stateAfter P (suc r) (crashOf s i) (stateAt members i) (tabulate (s .n) (heardFrom (s .crashes) (s .reaches) (suc r) (codeSaid P members) i)) ≡ after P s (suc r) i
       unfolding nextState
       next-same i l = ap₂ (stateAfter P (suc r) (crashOf s i)) (state-at i l) (row-same i) ∙ sym (step-is P s r i l)
 
-      next-states : {grid gridNow : List (List ℕ)} {messages : ℕ} {next : List Member}
-          → Delivers (s .n) (suc r) (λ j. getD codes j 0) (s .crashes) (s .reaches) grid messages gridNow → HearsRows P (s .n) (suc r) members (s .crashes) gridNow next
-          → Stand (suc r) next
-      next-states sent f = over-so (over-again h (hears-codes P (s .n) (suc r) (λ j. getD codes j 0) (s .crashes) (s .reaches) sent f)) next-same
+      next-states : {next : List Member} → PlaysRound P (s .n) (suc r) members (s .crashes) (s .reaches) next → Stand (suc r) next
+      next-states f = over-so (over-again (h .states) f) next-same
 
-      sent-same : messagesOf (s .crashes) (s .reaches) (suc r) (λ j. getD codes j 0) (s .n) ≡ sentAfter P s r
-      sent-same = sum-same (s .n) _ _ (λ j l. ap (sentBy (s .n) (suc r) (crashOf s j) (reachOf s j)) (said-at j l))
+      -- the round is played, with its number as the code has it
+      pub goes-on : {next : List Member} {gridNow : List (List ℕ)} {codesNow : List ℕ} → PlaysRound P (fitting (s .n)) (r + 1) members (s .crashes) (s .reaches) next
+          → Overwritten (fitting (s .n)) (codeSaid P next) codes codesNow → length gridNow ≡ length grid → Between gridNow codesNow next (r + 1)
+      goes-on f said kept =
+          let room = h .room in
+          record {
+            states = rw (add-one r) (next-states (rw (add-one r, fits) at f));
+            said = said-again (fitting (s .n)) (codeSaid P members) (h .said) said;
+            room = omega arith;
+          }
 
-      -- what was delivered, with the round's number as the code has it
-      module _ {grid gridNow : List (List ℕ)} {k : ℕ}
-          (sent : Delivers (fitting (s .n)) (r + 1) (λ j. getD codes j 0) (s .crashes) (s .reaches) grid k gridNow) where
-        delivers : Delivers (s .n) (suc r) (λ j. getD codes j 0) (s .crashes) (s .reaches) grid k gridNow
-        delivers = rw (add-one r, fits) at sent
+      -- and its messages are counted
+      pub sent-in : {k : ℕ} → k ≡ messagesOf (s .crashes) (s .reaches) (r + 1) (λ j. getD codes j 0) (fitting (s .n)) → k ≡ sentAfter P s r
+      sent-in e =
+          rw (add-one r, fits) at e
+          ∙ sum-same (s .n) _ _ (λ j l. ap (sentBy (s .n) (suc r) (crashOf s j) (reachOf s j)) (said-at j (omega arith) ∙ says-same j l))
 
-        pub sent-in : k ≡ sentAfter P s r
-        sent-in = delivers .counted ∙ sent-same
-
-        pub goes-on : {last sent-so-far : ℕ} {next : List Member} → Playing last members sent-so-far r → r < last
-            → HearsRows P (fitting (s .n)) (r + 1) members (s .crashes) gridNow next → Playing last next (sent-so-far + k) (r + 1)
-        goes-on playing l f =
-            let so-far = playing .few in
-            let high = sent .few in
-            record {
-              inside = omega arith;
-              states = rw (add-one r) (next-states delivers (rw (add-one r, fits) at f));
-              counted = sum-step r (sentAfter P s) _ _ (playing .counted) sent-in;
-              few = omega arith;
-            }
+  pub counts-on : {last messages r k : ℕ} → Counted last messages r → r < last → k ≡ sentAfter P s r → k ≤ largest * largest → Counted last (messages + k) (r + 1)
+  counts-on {r = r} h l e high =
+      let so-far = h .few in
+      record { inside = omega arith; counted = sum-step r (sentAfter P s) _ _ (h .counted) e; few = omega arith }
 
 -- The end of the rounds is that of the run, where no call is refused in it.
-module _ (P : Protocol) (s : Schedule) (small : s .n ≤ largest) (own : OwnAnswers P largest s) {last : ℕ} (rounds : last ≤ s .t + 1) where
-  module _ {members : List Member} {sent-so-far r : ℕ} (h : Playing (byCalls largest P) s last members sent-so-far r) where
-    inside : r ≤ s .t + 1
-    inside = let a = h .inside in omega arith
-
-    members-long : length members ≡ largest
-    members-long = let e = length-replicate largest nobody in over-long (h .states) (omega arith) ∙ e
+module _ (P : Protocol) (s : Schedule) (small : s .n ≤ largest) (own : OwnAnswers P largest s) where
+  -- the member at a place is the run's
+  module _ {members : List Member} {r : ℕ} (inside : r ≤ s .t + 1) (h : Stand (byCalls largest P) s r members) where
+    pub process-at : (i : ℕ) → i < s .n → stateAt members i ≡ stateAt (statesAfter P s r) i
+    unfolding after
+    process-at i l = over-at h i nobody l ∙ ap (λ (states : List Member). stateAt states i) (own .states r inside)
 
     member-at : (i : ℕ) → i < largest → stateAt members i ≡ stateAt (statesAfter P s r) i
-    unfolding after
     member-at i l =
         elim (split (s .n) i) [
           | inl a ↦
               let long = states-long P s r in
-              over-past (h .states) i nobody a ∙ getD-replicate largest i nobody nobody l ∙ sym (List·getD-eq-default (statesAfter P s r) nobody (omega arith))
-          | inr a ↦ over-at (h .states) i nobody a ∙ ap (λ (states : List Member). stateAt states i) (own .states r inside)
+              over-past h i nobody a ∙ getD-replicate largest i nobody nobody l ∙ sym (List·getD-eq-default (statesAfter P s r) nobody (omega arith))
+          | inr a ↦ process-at i a
         ]
+
+    members-long : length members ≡ largest
+    members-long = let e = length-replicate largest nobody in over-long h (omega arith) ∙ e
 
     members-are : members ≡ membersAfter P s r
     members-are =
@@ -126,20 +135,25 @@ module _ (P : Protocol) (s : Schedule) (small : s .n ≤ largest) (own : OwnAnsw
         ext-getD nobody members (membersAfter P s r) (long ∙ sym e)
         (λ i l. member-at i (omega arith) ∙ sym (getD-tabulate largest (stateAt (statesAfter P s r)) i nobody (omega arith)))
 
+  module _ {last : ℕ} (rounds : last ≤ s .t + 1) {members : List Member} {messages r : ℕ} (h : Stand (byCalls largest P) s r members)
+      (so-far : Counted (byCalls largest P) s last messages r) where
+    inside : r ≤ s .t + 1
+    inside = let a = so-far .inside in omega arith
+
     -- the same messages, where no round is played past t + 1
-    counted-are : sent-so-far ≡ sum r (sentAfter P s)
-    counted-are = h .counted ∙ sum-same r _ _ (λ k l. let a = h .inside in own .sends k (omega arith))
+    counted-are : messages ≡ sum r (sentAfter P s)
+    counted-are = so-far .counted ∙ sum-same r _ _ (λ k l. let a = so-far .inside in own .sends k (omega arith))
 
-    pub ends-last : last ≤ r → Plays P s last members sent-so-far
+    pub ends-last : last ≤ r → Plays P s last members messages
     ends-last l =
-        let a = h .inside in
+        let a = so-far .inside in
         let e : r ≡ last = omega arith in
-        rw (← e) (record { states = members-are; counted = counted-are })
+        rw (← e) (record { states = members-are inside h; counted = counted-are })
 
-    pub ends-silent : ((k : ℕ) → sentAfter P s k ≡ 0 → SilentFrom P s k) → r < last → sentAfter (byCalls largest P) s r ≡ 0 → Plays P s last members sent-so-far
+    pub ends-silent : ((k : ℕ) → sentAfter P s k ≡ 0 → SilentFrom P s k) → r < last → sentAfter (byCalls largest P) s r ≡ 0 → Plays P s last members messages
     ends-silent silence l none =
         let q = silence r (sym (own .sends r (omega arith)) ∙ none) in
         record {
-          states = members-are ∙ ap (λ (states : List Member). tabulate largest (stateAt states)) (sym (q .states last (omega arith)));
+          states = members-are inside h ∙ ap (λ (states : List Member). tabulate largest (stateAt states)) (sym (q .states last (omega arith)));
           counted = counted-are ∙ sym (sum-ends last r (sentAfter P s) (omega arith) (q .sends));
         }

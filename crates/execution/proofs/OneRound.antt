@@ -7,20 +7,16 @@ use lib.ListN.{getD, take, drop, replicate}
 use lib.Seq.{take-at}
 use Rattle.laws.specs.Below.{tabulate}
 use Rattle.laws.specs.Filled.{Overwritten}
-use Rattle.laws.proofs.Lists.{length-tabulate}
+use Rattle.laws.proofs.Lists.{length-tabulate, tabulate-same}
 use Rattle.laws.proofs.Overwritten.{over-at, over-so, over-all, over-again}
 use Rattle.member.specs.declared.Member.{Member}
 use Rattle.sets.specs.Largest.{largest, fitting}
 use Rattle.sets.specs.Tables.{padded}
 use Rattle.sets.proofs.Theorem.{table-facts}
 use Rattle.run.specs.Protocol.{Protocol, nobody}
-use Rattle.run.specs.Run.{heardFrom, stateAt, codeSaid, stateAfter}
+use Rattle.run.specs.Run.{delivered, heardFrom, stateAt, codeSaid, stateAfter}
 use Rattle.delivery.specs.Delivery.{Delivers}
-use Rattle.execution.specs.Rounds.{noMembers, Opens, HearsRows}
-
--- the row of process i, of n processes that say these codes
-abbrev pub rowHeard : List ℕ → List ℕ → ℕ → (ℕ → ℕ) → ℕ → ℕ → List ℕ
-rowHeard crashes reaches r code n i = tabulate n (heardFrom crashes reaches r code i)
+use Rattle.execution.specs.Rounds.{noMembers, Opens, HearsRows, PlaysRound}
 
 -- what a padded table of codes holds
 pub code-at : (n : ℕ) (f : ℕ → ℕ) {codes : List ℕ} → codes ≡ padded n f → (j : ℕ) → j < n → getD codes j 0 ≡ f j
@@ -30,15 +26,18 @@ front-padded : (n : ℕ) (f : ℕ → ℕ) → take n (padded n f) ≡ tabulate 
 front-padded n f = take-at (tabulate n f) (drop n (replicate largest 0)) n (length-tabulate n f)
 
 -- A round of n processes whose codes were delivered.
-module _ (P : Protocol) (n r : ℕ) (code : ℕ → ℕ) (crashes reaches : List ℕ) {grid gridNow : List (List ℕ)} {messages : ℕ}
-    (sent : Delivers n r code crashes reaches grid messages gridNow) where
-  row-at : (i : ℕ) → i < n → take n (getD gridNow i []) ≡ rowHeard crashes reaches r code n i
-  row-at i l = ap (take n) (over-at (sent .rows) i [] l) ∙ front-padded n (heardFrom crashes reaches r code i)
+module _ (P : Protocol) (n r : ℕ) (code : ℕ → ℕ) (crashes reaches : List ℕ) {grid gridNow : List (List ℕ)}
+    (sent : Delivers n r code crashes reaches grid gridNow) where
+  row-at : (i : ℕ) → i < n → take n (getD gridNow i []) ≡ tabulate n (heardFrom crashes reaches r code i)
+  row-at i l = ap (take n) (over-at sent i [] l) ∙ front-padded n (heardFrom crashes reaches r code i)
 
-  -- the rows of the grid are heard
-  pub hears-codes : {members next : List Member} → HearsRows P n r members crashes gridNow next
-      → Overwritten n (λ i. stateAfter P r (getD crashes i 0) (stateAt members i) (rowHeard crashes reaches r code n i)) members next
-  hears-codes {members} h = over-so h (λ i l. ap (stateAfter P r (getD crashes i 0) (stateAt members i)) (row-at i l))
+  -- the rows of the grid are heard, and if the codes are what the members say, that is the round
+  pub plays-round : {members next : List Member} → ((j : ℕ) → j < n → code j ≡ codeSaid P members j) → HearsRows P n r members crashes gridNow next
+      → PlaysRound P n r members crashes reaches next
+  plays-round {members} said h =
+      over-so h
+      (λ i l. ap (stateAfter P r (getD crashes i 0) (stateAt members i))
+      (row-at i l ∙ tabulate-same n _ _ (λ j b. ap (delivered r i (getD crashes j 0) (getD reaches j 0)) (said j b))))
 
 -- the loop that opens the members is at its end
 pub all-opened : (P : Protocol) (n t : ℕ) (votes : List ℕ) {size i : ℕ} {members : List Member} → size ≡ fitting n → i ≡ size

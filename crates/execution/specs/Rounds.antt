@@ -2,11 +2,12 @@
 use Prim.Native.Nat.{ℕ, _+_}
 use mathlib.Core.List.{List, []}
 use lib.ListN.{getD, take, replicate}
+use Rattle.laws.specs.Below.{tabulate}
 use Rattle.laws.specs.Filled.{Overwritten}
 use Rattle.sets.specs.Largest.{largest}
 use Rattle.member.specs.declared.Member.{Member}
 use Rattle.run.specs.Protocol.{Protocol, nobody}
-use Rattle.run.specs.Run.{stateAt, stateAfter}
+use Rattle.run.specs.Run.{heardFrom, stateAt, codeSaid, stateAfter}
 
 -- an array in which no member stands
 abbrev pub noMembers : List Member
@@ -22,3 +23,10 @@ module _ (P : Protocol) (n : ℕ) where
   abbrev pub HearsRows : ℕ → List Member → List ℕ → List (List ℕ) → List Member → Type 0
   HearsRows round members crashes grid next =
       Overwritten n (λ i. stateAfter P round (getD crashes i 0) (stateAt members i) (take n (getD grid i []))) members next
+
+  -- a round: each member says its code, and each that completes the round hears its row of these; the places from n on are as they were
+  abbrev pub PlaysRound : ℕ → List Member → List ℕ → List ℕ → List Member → Type 0
+  PlaysRound round members crashes reaches next =
+      Overwritten n
+      (λ i. stateAfter P round (getD crashes i 0) (stateAt members i) (tabulate n (heardFrom crashes reaches round (codeSaid P members) i)))
+      members next

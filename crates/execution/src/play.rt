@@ -9,9 +9,9 @@ ghost use Rattle.schedule.specs.Questions.{question};
 ghost use Rattle.run.specs.Protocol.{fcwfa};
 ghost use Rattle.execution.specs.Ran.{Plays};
 use crate::Ran;
-use crate::round::hear_rows;
 use crate::round::open_all;
-use delivery::deliver;
+use crate::round::play_round;
+use delivery::message_count;
 use sets::Set;
 use sets::WIDTH;
 use sets::zero_bytes;
@@ -57,7 +57,7 @@ fn play_on(
     let mut played: usize = 0;
     while played < last {
         let round = (played + 1) as u8;
-        let sent = deliver(n, round, &codes, crashes, reaches, &mut grid[..]);
+        let sent = message_count(n, round, &codes, crashes, reaches);
         if sent == 0 {
             return Ran {
                 question: 0,
@@ -65,7 +65,15 @@ fn play_on(
                 messages: messages,
             };
         }
-        let next = hear_rows(n, round, members, crashes, &grid[..], &mut codes[..]);
+        let next = play_round(
+            n,
+            round,
+            members,
+            &mut codes,
+            crashes,
+            reaches,
+            &mut grid[..],
+        );
         members = next;
         messages += sent;
         played += 1;

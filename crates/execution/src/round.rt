@@ -8,14 +8,16 @@ ghost use Rattle.laws.specs.Filled.{Overwritten};
 ghost use Rattle.sets.specs.Largest.{fitting as Largest·fitting};
 ghost use Rattle.run.specs.Run.{codeSaid, stateAfter};
 ghost use Rattle.execution.specs.Calls.{calls};
-ghost use Rattle.execution.specs.Rounds.{noMembers, Opens, HearsRows};
+ghost use Rattle.execution.specs.Rounds.{noMembers, Opens, HearsRows, PlaysRound};
 use crate::calls::Turn;
 use crate::calls::heard;
 use crate::calls::is_stopped;
 use crate::calls::no_member;
 use crate::calls::opened;
 use delivery::completes;
+use delivery::deliver;
 use member::Member;
+use sets::Set;
 use sets::WIDTH;
 use sets::byte_at;
 use sets::fitting;
@@ -70,7 +72,7 @@ fn next_turn(round: u8, crash: u8, m: Member, code: u8, row: &[u8]) -> Turn
 // The states after a round whose rows are the first n codes of the rows of the grid. `codes` has what the
 // members say in it, and gets what they say in the next: so no member is asked what it says but where a row
 // has changed it.
-pub fn hear_rows(
+fn hear_rows(
     n: usize,
     round: u8,
     members: [Member; WIDTH],
@@ -97,4 +99,24 @@ pub fn hear_rows(
         i += 1;
     }
     next
+}
+
+// One round of all members: their rows are formed in the grid from the codes that they say, and each that
+// completes the round hears its own. `codes` gets what they say in the next round. Nothing is counted here.
+pub fn play_round(
+    n: usize,
+    round: u8,
+    members: [Member; WIDTH],
+    codes: &mut [u8; WIDTH],
+    crashes: &[u8],
+    reaches: &[Set],
+    grid: &mut [[u8; WIDTH]],
+) -> [Member; WIDTH]
+    requires room { ⌜ Largest·fitting n ≤ length (now grid) ⌝ }
+    requires said_before { ⌜ ((i : ℕ) → i < Largest·fitting n → getD (now codes) i 0 ≡ codeSaid calls members i) ⌝ }
+    ensures played { λ r. ⌜ PlaysRound calls (Largest·fitting n) round members (now (crashes .entry)) (now (reaches .entry)) r ⌝ }
+    ensures said { λ r. ⌜ Overwritten (Largest·fitting n) (codeSaid calls r) (now (codes .entry)) (now (codes .exit)) ⌝ }
+{
+    deliver(n, round, codes, crashes, reaches, &mut grid[..]);
+    hear_rows(n, round, members, crashes, &grid[..], &mut codes[..])
 }

@@ -1,11 +1,12 @@
 -- The least number below n that passes a test, or n: the one that passes if it is below n, and before which none does. Assumes nothing.
 use mathlib.Core.Path.{_≡_, sym, ap, _∙_}
 use mathlib.Core.Logic.{inl, inr}
-use mathlib.Core.Bool.{Bool, true, false}
+use mathlib.Core.Bool.{Bool, true, false, true≢false}
 use Prim.Native.Nat.{ℕ, zero, suc, _≤_, _<_}
 use native.Mathlib.Omega.{arith}
 use Rattle.laws.specs.Below.{least}
 use Rattle.laws.proofs.Test.{true-or-false, cond-true, cond-false}
+use Rattle.laws.proofs.Counting.{split}
 
 least-here : (n : ℕ) (p : ℕ → Bool) → p 0 ≡ true → least (suc n) p ≡ 0
 unfolding least
@@ -44,3 +45,22 @@ least-passes (suc n) p l =
       | inl e ↦ rw (least-here n p e) e
       | inr e ↦ let later = least-later n p e in rw later (least-passes n (λ i. p (suc i)) (omega arith))
     ]
+
+pub least-high : (n : ℕ) (p : ℕ → Bool) → least n p ≤ n
+unfolding least
+least-high zero p = omega arith
+least-high (suc n) p =
+    elim (true-or-false (p 0)) [
+      | inl e ↦ let here = least-here n p e in omega arith
+      | inr e ↦ let later = least-later n p e in let high = least-high n (λ i. p (suc i)) in omega arith
+    ]
+
+-- it is at most any number that passes
+pub least-low : (n : ℕ) (p : ℕ → Bool) (k : ℕ) → p k ≡ true → least n p ≤ k
+least-low n p k e = elim (split (least n p) k) [ inl h ↦ h | inr h ↦ absurd (true≢false (sym e ∙ least-before n p k h)) ]
+
+-- it goes by the tests of the numbers below n alone
+pub least-same : (n : ℕ) (p q : ℕ → Bool) → ((i : ℕ) → i < n → p i ≡ q i) → least n p ≡ least n q
+least-same n p q same =
+    let high = least-high n p in
+    least-is n q (least n p) high (λ i l. sym (same i (omega arith)) ∙ least-before n p i l) (λ l. sym (same (least n p) l) ∙ least-passes n p l)

@@ -160,7 +160,7 @@ module _ (s : Schedule) (ok : Rules s) where
   ends-are = fun-ext (λ i. sym (rounds-read fcwfa s i))
 
   -- a process that never crashes decides
-  some-decides : Some (s .n) λ i. ends i ≢ 0
+  pub some-decides : Some (s .n) λ i. ends i ≢ 0
   some-decides =
       let x = some-survives s ok in
       let never = round-never s (x .0) (x .2) in

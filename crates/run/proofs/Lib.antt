@@ -25,6 +25,7 @@ pub mod Reported
 pub mod Given
 pub mod Before
 pub mod Deciders
+pub mod Outcome
 pub mod NoneRefused
 pub mod OwnAnswers
 pub mod Silence

@@ -12,13 +12,14 @@ use Rattle.member.specs.Questions.{sayQuestion, rowQuestion, hearQuestion}
 use Rattle.sets.specs.Sets.{names}
 use Rattle.schedule.specs.Schedule.{crashedBy}
 use Rattle.run.specs.Run.{completesRound, isHeard, delivered, codeHeard, rowOf, stateAfter, nextState, played, opened, statesAfter, final}
-use Rattle.run.specs.Report.{sentBy, messages, ahead, before, firstWith, firstOf, lastOf}
+use Rattle.run.specs.Report.{sentBy, messages, decisionOf, ahead, before, firstWith, firstOf, lastOf}
 use Rattle.run.specs.Demand.{roundB, mostMessages}
 use Rattle.run.specs.CrashesSoFar.{earlyRound, settlingRound}
+use Rattle.run.specs.Outcome.{lowestDecided, outcomeRound, outcomeDecision}
 use Rattle.run.specs.Vectors.{RunVectors}
 
 pub run-vectors : RunVectors
-unfolding within sum count least fold ask placeAfter openQuestion inLimits placed silentOthers inRange stopped says codes told toldEarly toldBoth firstEstimate becomes setsSilent silentAfter sayQuestion rowQuestion hearQuestion crashedBy ahead before firstWith firstOf lastOf roundB mostMessages ones onesIn tabulate zerosOnly quiet enough ruleMet lowered toldValue byRule names completesRound isHeard delivered codeHeard rowOf stateAfter nextState played opened statesAfter final sentBy messages earlyRound settlingRound
+unfolding within sum count least fold ask placeAfter openQuestion inLimits placed silentOthers inRange stopped says codes told toldEarly toldBoth firstEstimate becomes setsSilent silentAfter sayQuestion rowQuestion hearQuestion crashedBy ahead before firstWith firstOf lastOf roundB mostMessages ones onesIn tabulate zerosOnly quiet enough ruleMet lowered toldValue byRule names completesRound isHeard delivered codeHeard rowOf stateAfter nextState played opened statesAfter final sentBy messages decisionOf earlyRound settlingRound lowestDecided outcomeRound outcomeDecision
 run-vectors =
     record {
       round-b-of-3 = refl;
@@ -32,6 +33,9 @@ run-vectors =
       first-survivor = refl;
       last = refl;
       silent-sets = refl;
+      lowest-decided = refl;
+      outcomes = refl;
+      no-outcome = refl;
       refused-opening = refl;
       refused-saying = refl;
       refused-hearing = refl;

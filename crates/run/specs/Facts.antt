@@ -18,6 +18,7 @@ use Rattle.run.specs.Demand.{Completes, Decides, CompletesUndecided, rou
 use Rattle.run.specs.CrashesSoFar.{NobodyUndecided, CrashesSoFar, LastRound, settlingOf, LeftOpen}
 use Rattle.run.specs.SilentSets.{SilentSets}
 use Rattle.run.specs.Given.{GivenNoneBy, GivenPromises}
+use Rattle.run.specs.Outcome.{outcomeRound, outcomeDecision, OutcomePromises}
 
 module _ (P : Protocol) (s : Schedule) where
   -- Who hears whom in round r, whatever the states at its start: what i hears from j.
@@ -106,5 +107,7 @@ pub record RunPromises (limit : ℕ) (s : Schedule) : Type 0 where
   -- A round in which nothing is sent is followed by nothing else, so a run may end there: n is at least 4, so a completing sender that says something
   -- adds at least 3.
   pub silence : (r : ℕ) → sentAfter fcwfa s r ≡ 0 → SilentFrom fcwfa s r
+  -- the outcome, which is answered without the whole run: what every process decides that decides, and the first round in which one does
+  pub outcome : OutcomePromises s (outcomeDecision fcwfa s) (outcomeRound fcwfa s)
   -- demand 3, the crashes so far and the deciders of the report itself, on its counts and its tables
   pub given : GivenPromises s (report fcwfa s)

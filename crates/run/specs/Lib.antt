@@ -6,5 +6,6 @@ pub mod CrashesSoFar
 pub mod SilentSets
 pub mod Deciders
 pub mod Given
+pub mod Outcome
 pub mod Facts
 pub mod Vectors

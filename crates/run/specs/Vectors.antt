@@ -7,13 +7,14 @@ use lib.ListN.{getD}
 use Rattle.sets.specs.Largest.{largest}
 use Rattle.member.specs.declared.Member.{Member}
 use Rattle.member.specs.Opening.{opening}
-use Rattle.schedule.specs.Four.{four, allOne, allZero}
-use Rattle.schedule.specs.Schedule.{scheduleOf, crashedBy}
+use Rattle.schedule.specs.Four.{four, allZero, fourVoting1}
+use Rattle.schedule.specs.Schedule.{Schedule, scheduleOf, crashedBy}
 use Rattle.run.specs.Protocol.{fcwfa, nobody, byCalls}
 use Rattle.run.specs.Run.{statesAfter}
 use Rattle.run.specs.Report.{firstOf, lastOf, report}
 use Rattle.run.specs.Demand.{roundB, mostMessages}
 use Rattle.run.specs.CrashesSoFar.{settlingOf}
+use Rattle.run.specs.Outcome.{lowestDecided, outcomeRound, outcomeDecision}
 
 -- the rounds that stand in a table, 0 past its end
 abbrev pub roundsIn : List ℕ → ℕ → ℕ
@@ -31,15 +32,23 @@ settlingIn n t crashes = settlingOf (scheduleOf n t [] crashes [])
 abbrev pub lateMember : Member
 lateMember = record { n = 4; t = 3; id = 1; round = 9; estimate = 1; decided = 0; silent = 0 }
 
+-- a member of four with the estimate 1 at the end of a run, that decided in this round, 0 for none
+abbrev pub decidedIn : ℕ → Member
+decidedIn r = record { n = 4; t = 3; id = 1; round = 5; estimate = 1; decided = r; silent = 0 }
+
+-- the decision and the round of a schedule's outcome
+abbrev pub outcomeOf : Schedule → List ℕ
+outcomeOf s = outcomeDecision fcwfa s ∷ outcomeRound fcwfa s ∷ []
+
 pub record RunVectors : Type 0 where
   -- B = f + 2 if f ≤ t − 2 and f + 1 otherwise: t = 3 with no crash to three, and t = 5 with no crash to five
   pub round-b-of-3 : map (λ f. roundB f 3) (four 0 1 2 3) ≡ four 2 3 3 4
   pub round-b-of-5 : map (λ f. roundB f 5) (0 ∷ 1 ∷ 2 ∷ 3 ∷ 4 ∷ 5 ∷ []) ≡ 2 ∷ 3 ∷ 4 ∷ 5 ∷ 5 ∷ 6 ∷ []
   -- "n × (n − 1) × the smaller of B + 1 and t + 1", of four processes with t = 3 and no crash to three; and case A, "36", meets it
   pub most-messages : map (mostMessages 4 3) (four 0 1 2 3) ≡ four 36 48 48 48
-  pub bound-met : report fcwfa (scheduleOf 4 3 allOne allZero allZero) .messages ≡ mostMessages 4 3 0
+  pub bound-met : report fcwfa (fourVoting1 allZero allZero) .messages ≡ mostMessages 4 3 0
   -- crash rounds from 1 to r, of those of case E: none to round 0, one to round 1, two to round 2, three to round 3
-  pub crashed-by : map (crashedBy (scheduleOf 4 3 allOne (four 1 3 0 2) allZero)) (four 0 1 2 3) ≡ four 0 1 2 3
+  pub crashed-by : map (crashedBy (fourVoting1 (four 1 3 0 2) allZero)) (four 0 1 2 3) ≡ four 0 1 2 3
   -- the first r from 2 to t − 1 with fewer than r − 1 crashes by r, else t if there are fewer than t by t, else t + 1: four processes with t = 3, cases A,
   -- D, E, G, H and K
   pub settling-of-4 : map (settlingIn 4 3) (allZero ∷ four 1 0 0 0 ∷ four 1 3 0 2 ∷ four 1 0 0 2 ∷ four 3 0 0 0 ∷ four 1 1 1 0 ∷ []) ≡ 2 ∷ 3 ∷ 4 ∷ 3 ∷ 2 ∷ 4 ∷ []
@@ -58,8 +67,17 @@ pub record RunVectors : Type 0 where
   pub last : map (λ rounds. lastOf (roundsIn rounds) 4) (four 3 2 2 0 ∷ four 0 4 0 3 ∷ allZero ∷ []) ≡ 3 ∷ 4 ∷ 0 ∷ []
   -- the silent sets of case E, after rounds 1 to 4: in round 2 process 2 misses process 1, and process 3 also process 4, whose message comes to process 2
   -- alone; in round 3 process 3 misses process 2 too, and in round 4 the same three
-  pub silent-sets : map (λ r. map (λ m. m .silent) (statesAfter fcwfa (scheduleOf 4 3 allOne (four 1 3 0 2) (four 6 0 0 2)) r)) (four 1 2 3 4)
+  pub silent-sets : map (λ r. map (λ m. m .silent) (statesAfter fcwfa (fourVoting1 (four 1 3 0 2) (four 6 0 0 2)) r)) (four 1 2 3 4)
       ≡ allZero ∷ four 0 1 9 0 ∷ four 0 1 11 0 ∷ four 0 1 11 0 ∷ []
+  -- the lowest-numbered process that is decided: of two, in whichever rounds; the first; the last; and none
+  pub lowest-decided : map (λ rounds. lowestDecided 4 (map decidedIn rounds)) (four 0 3 2 0 ∷ four 4 0 0 2 ∷ four 0 0 0 4 ∷ allZero ∷ []) ≡ 1 ∷ 0 ∷ 3 ∷ 4 ∷ []
+  -- the outcomes of cases A, B, D, E, F, G and K: the smallest decided round, and what is decided in it
+  pub outcomes : map outcomeOf
+      (fourVoting1 allZero allZero ∷ scheduleOf 4 3 (four 0 1 1 1) allZero allZero ∷ fourVoting1 (four 1 0 0 0) (four 2 0 0 0)
+      ∷ fourVoting1 (four 1 3 0 2) (four 6 0 0 2) ∷ fourVoting1 (four 1 3 0 2) (four 6 4 0 2) ∷ fourVoting1 (four 1 0 0 2) (four 6 0 0 2)
+      ∷ fourVoting1 (four 1 1 1 0) allZero ∷ []) ≡ (1 ∷ 2 ∷ []) ∷ (0 ∷ 2 ∷ []) ∷ (0 ∷ 3 ∷ []) ∷ (1 ∷ 4 ∷ []) ∷ (0 ∷ 3 ∷ []) ∷ (0 ∷ 3 ∷ []) ∷ (0 ∷ 2 ∷ []) ∷ []
+  -- where all four crash in round 1, one more than t, nobody decides: 2 for none, and a round after the last, which is t + 1
+  pub no-outcome : outcomeOf (fourVoting1 (four 1 1 1 1) allZero) ≡ 2 ∷ 5 ∷ []
   -- what the answers of calls come to: an opening with n = 3, and a member in a round past the last, which says nothing and keeps its state whatever it
   -- hears; and calls that are accepted
   pub refused-opening : map (λ n. byCalls largest fcwfa .opening n 3 1 1) (3 ∷ 4 ∷ []) ≡ nobody ∷ opening 4 3 1 1 ∷ []

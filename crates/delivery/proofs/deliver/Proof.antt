@@ -1,34 +1,27 @@
--- `deliver` meets its contract: every row starts as the codes of those that complete the round, and each turn looks at one sender (Heard.antt), whose
--- messages are counted (Sent.antt). Assumes nothing.
-use Prim.Native.Nat.{_+_, _-_, _*_, _≤_}
-use mathlib.Core.Path.{_≡_, refl}
-use native.Mathlib.Nat.{le-trans, le-of-eq}
+-- `deliver` meets its contract: every row starts as the codes of those that complete the round, and each turn looks at one sender (Heard.antt). Assumes
+-- nothing.
+use Prim.Native.Nat.{_-_, _≤_}
+use mathlib.Core.Path.{refl}
 use native.Mathlib.Omega.{arith}
 use borrow.Author.Needs.{needs}
 use denote.Ref.{now}
-use Rattle.laws.specs.Below.{sum}
 use Rattle.laws.proofs.Overwritten.{over-long, over-again}
-use Rattle.sets.specs.Largest.{largest, fitting}
+use Rattle.sets.specs.Largest.{fitting}
 use Rattle.delivery.proofs.Heard.{RowsSoFar, rows-start, entered-at, rows-more, rows-end}
-use Rattle.delivery.proofs.Sent.{completing-few, crashing-low, crashingAdds, so-far-start, so-far-more, all-sent, sent-low}
 use Rattle.delivery.proofs.deliver.Statement.{statement}
 use Rattle.delivery.proofs.deliver.Tie as tie
 
 abbrev Inv-loop : tie.InvT-loop
-Inv-loop n round codes crashes reaches grid₀ size messages₀ j₀ grid messages j =
-    (j ≤ size)
-    × RowsSoFar crashes reaches codes round size j grid₀ grid
-    × (messages ≡ messages₀ + sum j (crashingAdds crashes reaches codes round))
-    × (messages ≤ messages₀ + largest * j)
+Inv-loop n round codes crashes reaches grid₀ size j₀ grid j = (j ≤ size) × RowsSoFar crashes reaches codes round size j grid₀ grid
 
 abbrev μ-loop : tie.MeasureT-loop
-μ-loop n round codes crashes reaches grid₀ size messages₀ j₀ grid messages j = size - j
+μ-loop n round codes crashes reaches grid₀ size j₀ grid j = size - j
 
 fitting-requires : tie.Need-fitting-requires Inv-loop μ-loop
 fitting-requires c κs = search needs
 
 returns : tie.Need-returns Inv-loop μ-loop
-returns c = (λ room. absurd (omega arith), λ short. (refl, refl))
+returns c = (λ room. absurd (omega arith), λ short. refl)
 
 completing-row-requires : tie.Need-completing-row-requires Inv-loop μ-loop
 completing-row-requires c κs = omega arith
@@ -36,23 +29,10 @@ completing-row-requires c κs = omega arith
 store-row-requires : tie.Need-store-row-requires Inv-loop μ-loop
 store-row-requires c κs = omega arith
 
-others-requires : tie.Need-others-requires Inv-loop μ-loop
-others-requires c κs = search needs
-
-speakers-requires : tie.Need-speakers-requires Inv-loop μ-loop
-speakers-requires c κs = search needs
-
-mul-messages : tie.Need-mul-messages Inv-loop μ-loop
-mul-messages c = let first = completing-few (c .before .others .result) _ (omega arith) (c .speakers .ensures) in omega arith
-
 loop-holds : tie.Need-loop-holds Inv-loop μ-loop
 loop-holds c =
-    let a = c .before .before .before .before .before .before .before .before .before .before .args in (
-      omega arith,
-      rows-start (now (a .crashes)) (now (a .reaches)) (now (a .codes)) (a .round) (c .before .before .before .before .before .completing-row .ensures) (c .before .before .before .store-row .ensures),
-      so-far-start (now (a .crashes)) (now (a .reaches)) (now (a .codes)) (a .round) _,
-      omega arith,
-    )
+    let a = c .before .before .before .before .before .before .before .before .args in
+    (omega arith, rows-start (now (a .crashes)) (now (a .reaches)) (now (a .codes)) (a .round) (c .before .before .before .completing-row .ensures) (c .before .store-row .ensures))
 
 byte-at-requires : tie.Need-byte-at-requires Inv-loop μ-loop
 byte-at-requires c κs = search needs
@@ -62,16 +42,8 @@ element-copy-out-enter-crashing c = omega arith
 
 enter-crashing-requires : tie.Need-enter-crashing-requires Inv-loop μ-loop
 enter-crashing-requires c κs =
-    let long = over-long (over-again (c .before .before .before .before .before .before .before .before .store-row .ensures) (c .before .before .before .before .loop .inv .1)) (omega arith) in
+    let long = over-long (over-again (c .before .before .before .before .before .before .store-row .ensures) (c .before .before .before .before .loop .inv .1)) (omega arith) in
     (omega arith, omega arith)
-
-add-messages : tie.Need-add-messages Inv-loop μ-loop
-add-messages c =
-    let first = completing-few (c .before .before .before .before .before .before .before .before .others .result) _ (omega arith) (c .before .before .before .before .before .before .before .speakers .ensures) in
-    let low = c .before .before .before .before .before .before .before .before .before .before .before .before .before .before .before .shared-slice-known2 .given in
-    let few = crashing-low (c .before .enter-crashing .ensures) (low _ .fits) in
-    let so-far = c .before .before .before .before .before .before .loop .inv .3 in
-    omega arith
 
 add-j : tie.Need-add-j Inv-loop μ-loop
 add-j c = omega arith
@@ -81,39 +53,18 @@ loop-less c = omega arith
 
 loop-again : tie.Need-loop-again Inv-loop μ-loop
 loop-again c =
-    let a = c .before .before .before .before .before .before .before .before .before .before .before .before .before .before .before .before .before .args in
-    let at = c .before .before .before .before .before .before .loop in
-    let inv = at .inv in
+    let a = c .before .before .before .before .before .before .before .before .before .before .before .before .before .before .before .args in
     let entered = entered-at (c .before .enter-crashing .ensures) (c .before .before .before .before .byte-at .ensures) in
-    let low = c .before .before .before .before .before .before .before .before .before .before .before .before .before .before .before .shared-slice-known2 .given in
-    let few = crashing-low (c .before .enter-crashing .ensures) (low _ .fits) in (
-      omega arith,
-      rows-more (now (a .crashes)) (now (a .reaches)) (now (a .codes)) (a .round) (omega arith) (inv .1) entered,
-      so-far-more (now (a .crashes)) (now (a .reaches)) (now (a .codes)) (a .round) _ (at .j) (inv .2) (entered .sent),
-      omega arith,
-    )
+    (omega arith, rows-more (now (a .crashes)) (now (a .reaches)) (now (a .codes)) (a .round) (omega arith) (c .before .before .before .before .before .before .loop .inv .1) entered)
 
 same-length : tie.Need-same-length Inv-loop μ-loop
-same-length c = over-long (over-again (c .before .before .before .before .before .store-row .ensures) (c .before .loop .inv .1)) (omega arith)
+same-length c = over-long (over-again (c .before .before .before .store-row .ensures) (c .before .loop .inv .1)) (omega arith)
 
 returns-2 : tie.Need-returns-2 Inv-loop μ-loop
 returns-2 c =
-    let a = c .before .before .before .before .before .before .before .before .before .before .before .before .args in
-    let inv = c .before .loop .inv in
-    let same = c .before .before .before .before .before .before .before .before .before .fitting .ensures in
-    let low = c .before .before .before .before .before .before .before .before .before .before .shared-slice-known2 .given in
-    let sent =
-    all-sent (now (a .crashes)) (now (a .reaches)) (now (a .codes)) (a .round) (fitting (a .n)) _ same (omega arith) (c .before .before .before .others .ensures)
-    (c .before .before .before .before .before .before .before .completing-row .ensures)
-    (c .before .before .speakers .ensures) (inv .2) (omega arith)
-    in (
-      λ room. record {
-        rows =
-            rows-end (now (a .crashes)) (now (a .reaches)) (now (a .codes)) (a .round) (fitting (a .n)) same (c .loop-test .left) (c .before .before .before .before .before .store-row .ensures)
-            (inv .1);
-        counted = sent;
-        few = le-trans (le-of-eq sent) (sent-low (now (a .crashes)) (now (a .reaches)) (now (a .codes)) (a .round) (fitting (a .n)) (omega arith) (λ k. low k .fits));
-      },
+    let a = c .before .before .before .before .before .before .before .before .before .before .args in (
+      λ room. rows-end (now (a .crashes)) (now (a .reaches)) (now (a .codes)) (a .round) (fitting (a .n)) (c .before .before .before .before .before .before .before .fitting .ensures) (c .loop-test .left) (c .before .before .before .store-row .ensures)
+          (c .before .loop .inv .1),
       λ short. absurd (omega arith),
     )
 
@@ -127,14 +78,10 @@ deliver-spec =
     returns
     completing-row-requires
     store-row-requires
-    others-requires
-    speakers-requires
-    mul-messages
     loop-holds
     byte-at-requires
     element-copy-out-enter-crashing
     enter-crashing-requires
-    add-messages
     add-j
     loop-less
     loop-again

@@ -3,11 +3,10 @@
 use Prim.Native.Nat.{ℕ, _-_, _≤_}
 use mathlib.Core.Bool.{Bool, true, false, cond}
 use mathlib.Core.List.{List, [], _∷_}
-use mathlib.Core.Logic.{_≢_, inl, inr, ⊎-elim}
+use mathlib.Core.Logic.{_≢_, ⊎-elim}
 use mathlib.Core.Path.{_≡_, refl, _∙_, ap, ap₂}
 use native.Mathlib.Omega.{arith}
 use borrow.Author.Needs.{needs}
-use lib.Count.{ones}
 use lib.ListN.{getD, set}
 use Rattle.laws.specs.Below.{bit}
 use Rattle.laws.specs.Filled.{Overwritten}
@@ -15,7 +14,6 @@ use Rattle.laws.proofs.Below.{bit-high}
 use Rattle.laws.proofs.Overwritten.{over-start, over-more, over-past, over-long, over-all}
 use Rattle.sets.specs.Sets.{names}
 use Rattle.member.specs.Saying.{nothing}
-use Rattle.delivery.proofs.Sent.{nothing-added, silence-added, reach-added}
 use Rattle.delivery.proofs.rows.enter_crashing.Statement.{statement}
 use Rattle.delivery.proofs.rows.enter_crashing.Tie as tie
 
@@ -27,15 +25,13 @@ abbrev μ-loop : tie.MeasureT-loop
 μ-loop n round j code crash reaches grid₀ reach heard i₀ grid i = n - i
 
 returns : tie.Need-returns Inv-loop μ-loop
-returns c =
-    let a = c .before .before .args in
-    record { crashing = λ some same. absurd (some (omega arith)); other = λ _. refl; sent = nothing-added (a .round) (a .crash) _ (a .code) (inl (omega arith)) }
+returns c = record { crashing = λ some same. absurd (some (omega arith)); other = λ _. refl }
 
 returns-2 : tie.Need-returns-2 Inv-loop μ-loop
 returns-2 c =
     let a = c .before .before .before .args in
     let past : a .crash ≢ a .round = λ e. omega arith in
-    record { crashing = λ some same. absurd (past same); other = λ _. refl; sent = nothing-added (a .round) (a .crash) _ (a .code) (inr past) }
+    record { crashing = λ some same. absurd (past same); other = λ _. refl }
 
 set-at-requires : tie.Need-set-at-requires Inv-loop μ-loop
 set-at-requires c κs = search needs
@@ -88,36 +84,15 @@ loop-again c =
           ∙ ap (λ (b : Bool). cond b (a .code) nothing) (c .before .is-named .ensures ∙ ap (λ (reach : ℕ). names reach (at .i)) read))),
     )
 
-ones-requires : tie.Need-ones-requires Inv-loop μ-loop
-ones-requires c κs = search needs
-
 same-length : tie.Need-same-length Inv-loop μ-loop
-same-length c = over-long (c .before .before .loop .inv .1) (omega arith)
+same-length c = over-long (c .before .loop .inv .1) (omega arith)
 
 returns-3 : tie.Need-returns-3 Inv-loop μ-loop
 returns-3 c =
-    let a = c .before .before .before .before .before .before .before .args in
+    let a = c .before .before .before .before .before .before .args in
     let some : a .crash ≢ 0 = λ e. omega arith in
     let same : a .crash ≡ a .round = omega arith in
-    record {
-      crashing = λ _ _. over-all (c .before .before .loop .inv .1) (omega arith);
-      other = λ e. absurd (⊎-elim some (λ past. past same) e);
-      sent = silence-added (a .round) (a .crash) _ (a .code) (omega arith);
-    }
-
-same-length-2 : tie.Need-same-length-2 Inv-loop μ-loop
-same-length-2 c = over-long (c .before .before .before .loop .inv .1) (omega arith)
-
-returns-4 : tie.Need-returns-4 Inv-loop μ-loop
-returns-4 c =
-    let a = c .before .before .before .before .before .before .before .before .args in
-    let some : a .crash ≢ 0 = λ e. omega arith in
-    let same : a .crash ≡ a .round = omega arith in
-    record {
-      crashing = λ _ _. over-all (c .before .before .before .loop .inv .1) (omega arith);
-      other = λ e. absurd (⊎-elim some (λ past. past same) e);
-      sent = c .ones .ensures ∙ ap ones (c .before .before .before .before .set-at .ensures) ∙ reach-added (a .round) (a .crash) _ (a .code) (λ e. omega arith) some same;
-    }
+    record { crashing = λ _ _. over-all (c .before .loop .inv .1) (omega arith); other = λ e. absurd (⊎-elim some (λ past. past same) e) }
 
 pub enter-crashing-spec : {M : Type 1} → statement M
 enter-crashing-spec =
@@ -139,8 +114,5 @@ enter-crashing-spec =
     add-i
     loop-less
     loop-again
-    ones-requires
     same-length
-    returns-3
-    same-length-2
-    returns-4)
+    returns-3)

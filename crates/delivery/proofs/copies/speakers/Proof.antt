@@ -10,8 +10,8 @@ use Rattle.laws.specs.Below.{count}
 use Rattle.laws.proofs.Below.{count-none, count-step, count-end, count-room}
 use Rattle.sets.specs.Largest.{largest}
 use Rattle.member.specs.Saying.{nothing}
-use Rattle.delivery.proofs.rows.speakers.Statement.{statement}
-use Rattle.delivery.proofs.rows.speakers.Tie as tie
+use Rattle.delivery.proofs.copies.speakers.Statement.{statement}
+use Rattle.delivery.proofs.copies.speakers.Tie as tie
 
 abbrev Inv-loop : tie.InvT-loop
 Inv-loop row speaking₀ j₀ speaking j = (j ≤ largest) × (speaking ≡ count j (λ k. not (eqb (getD row k 0) nothing))) × (speaking ≤ j)
