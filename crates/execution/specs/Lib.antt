@@ -1,3 +1,4 @@
 pub mod Calls
 pub mod Rounds
 pub mod Ran
+pub mod Decision

@@ -9,27 +9,15 @@ ghost use Rattle.schedule.specs.Questions.{question};
 ghost use Rattle.run.specs.Protocol.{fcwfa};
 ghost use Rattle.execution.specs.Ran.{Plays};
 use crate::Ran;
+use crate::grid::FEW;
+use crate::grid::all_rows;
+use crate::grid::few_rows;
 use crate::round::open_all;
 use crate::round::play_round;
 use delivery::message_count;
 use sets::Set;
 use sets::WIDTH;
 use sets::zero_bytes;
-
-// The rows of the smaller grid.
-const FEW: usize = 16;
-
-// The grid of a run's rounds before its first.
-fn all_rows() -> [[u8; WIDTH]; WIDTH] {
-    let row = zero_bytes();
-    [row; WIDTH]
-}
-
-// The same with fewer rows.
-fn few_rows() -> [[u8; WIDTH]; FEW] {
-    let row = zero_bytes();
-    [row; FEW]
-}
 
 // Rounds 1 to `last`, up to the first in which nothing is sent: after it nothing happens any more. A sender that
 // completes a round and says something adds n - 1 to it, at least 3 in an accepted schedule; so in such a round all

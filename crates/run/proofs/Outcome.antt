@@ -9,7 +9,7 @@ use native.Mathlib.Nat.{eq-zero-or-pos}
 use native.Mathlib.Numerals.{add-one}
 use native.Mathlib.Omega.{arith}
 use lib.Dec.{eqb, ltb}
-use borrow.Author.Tests.{eqb-true, ne-eqb, lt-ltb, le-ltb, ltb-true}
+use borrow.Author.Tests.{eq-eqb, ne-eqb, lt-ltb, ltb-true}
 use Rattle.laws.proofs.Test.{true-or-false, cond-false}
 use Rattle.laws.proofs.Counting.{split}
 use Rattle.laws.proofs.Least.{least-is, least-before, least-passes, least-high, least-low, least-same}
@@ -39,6 +39,12 @@ module _ (n : ℕ) (states : List Member) where
   pub lowest-high : lowestDecided n states ≤ n
   unfolding lowestDecided
   lowest-high = least-high n isDecided
+
+  -- a place up to n whose process is decided if it is below n, and before which nobody is, is that of the lowest-numbered
+  pub lowest-is : (k : ℕ) → k ≤ n → ((i : ℕ) → i < k → roundOf states i ≡ 0) → (k < n → roundOf states k ≢ 0) → k ≡ lowestDecided n states
+  unfolding lowestDecided
+  lowest-is k high before here =
+      least-is n isDecided k high (λ i l. ap not (eq-eqb (roundOf states i) 0 (before i l))) (λ l. decided-passes k (here l))
 
   -- nobody before it is decided
   pub none-lower : (i : ℕ) → i < lowestDecided n states → roundOf states i ≡ 0
@@ -98,6 +104,11 @@ module _ (P : Protocol) (s : Schedule) where
         elim (eq-zero-or-pos (after P s r i .decided)) [ inl z ↦ z | inr p ↦ absurd (true≢false (sym (some-is i l (λ z. omega arith)) ∙ e)) ]
 
 module _ (s : Schedule) (ok : Rules s) where
+  -- nobody is decided before round 1
+  pub none-opened : lowestDecided (s .n) (statesAfter fcwfa s 0) ≡ s .n
+  unfolding after
+  none-opened = sym (lowest-is (s .n) (statesAfter fcwfa s 0) (s .n) (omega arith) (laws s ok .opens-undecided) (λ l. absurd (omega arith)))
+
   -- some process is decided at the end of the run
   pub decided-at-end : someDecided fcwfa s (suc (s .t)) ≡ true
   decided-at-end =

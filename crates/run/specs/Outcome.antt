@@ -30,7 +30,11 @@ module _ (P : Protocol) (s : Schedule) where
   abbrev pub outcomePlace : ℕ
   outcomePlace = lowestDecided (s .n) (statesAfter P s outcomeRound)
 
-  -- "and answers that value and round": the decision of that process then
+  -- its state then
+  abbrev pub outcomeMember : Member
+  outcomeMember = stateAt (statesAfter P s outcomeRound) outcomePlace
+
+  -- "and answers that value and round": its decision then
   unfoldable pub outcomeDecision : ℕ
   outcomeDecision = decisionOf (statesAfter P s outcomeRound) outcomePlace
 

@@ -72,8 +72,7 @@ returns c =
     let ok = question-accepted s largest true (pre .0) in
     let promises = accepted-run s largest true (pre .0) in
     let at = c .before .before .before .before .loop in
-    let sent = sent-in calls s (ok .n-high) (at .played) (at .inv .0) (c .before .message-count .ensures .0) in
-    (
+    let sent = sent-in calls s (ok .n-high) (at .played) (at .inv .0) (c .before .message-count .ensures .0) in (
       ends-silent fcwfa s (ok .n-high) (promises .own-answers) (pre .1 .0) (at .inv .0 .states) (at .inv .1) (promises .silence) (omega arith) (sym sent ∙ c .if1 .taken),
       refl,
     )
@@ -131,8 +130,7 @@ returns-2 c =
     let s = scheduleOf (a .n) (a .t) (now (a .votes)) (now (a .crashes)) (now (a .reaches)) in
     let pre = c .before .before .before .before .before .before .before .before .before .pre in
     let ok = question-accepted s largest true (pre .0) in
-    let at = c .before .loop in
-    (
+    let at = c .before .loop in (
       ends-last fcwfa s (ok .n-high) (accepted-run s largest true (pre .0) .own-answers) (pre .1 .0) (at .inv .0 .states) (at .inv .1) (c .loop-test .left),
       refl,
     )
