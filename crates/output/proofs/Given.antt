@@ -1,5 +1,5 @@
 -- What an accepted schedule's run gives: its counts and tables are those of the report, each decision is 0, 1 or 2, and printing what is given prints
--- the report. Assumes nothing.
+-- the report; and so with its outcome. Assumes nothing.
 use mathlib.Core.Path.{_≡_, ap, ap₂, _∙_}
 use mathlib.Core.Logic.{inl, inr}
 use mathlib.Core.List.{List}
@@ -21,8 +21,9 @@ use Rattle.run.specs.Run.{final}
 use Rattle.run.specs.Report.{Report, roundOf, decisionOf, report}
 use Rattle.run.proofs.Theorem.{accepted-run}
 use Rattle.simulator.specs.declared.Counts.{Counts}
-use Rattle.simulator.specs.Answers.{countsOf, givenBy, simulateQuestion, simulateAnswer}
-use Rattle.text.specs.Output.{reportText}
+use Rattle.simulator.specs.declared.Outcome.{Outcome}
+use Rattle.simulator.specs.Answers.{countsOf, givenBy, simulateQuestion, simulateAnswer, outcomeOf, outcomeAnswer}
+use Rattle.text.specs.Output.{reportText, outcomeText, outcomeShown}
 use Rattle.report.specs.Shown.{areDecisions}
 use Rattle.report.proofs.Decisions as Decisions
 
@@ -33,6 +34,11 @@ module _ (limit : ℕ) (s : Schedule) (decisions rounds : List ℕ) (passed : si
 
   pub table-given : (given lent : List ℕ) → placeAfter (simulateQuestion limit s decisions rounds) given lent ≡ given
   table-given given lent = place-given _ given lent passed
+
+-- an accepted schedule has an outcome
+pub outcome-given : (P : Protocol) (limit : ℕ) (s : Schedule) → question s limit true ≡ 0 → outcomeAnswer P limit s ≡ accepted (outcomeOf P limit s)
+unfolding outcomeAnswer
+outcome-given P limit s passed = answer-accepted _ _ _ passed
 
 -- the tables of a report have an entry for each process
 module _ (P : Protocol) (s : Schedule) where
@@ -71,3 +77,8 @@ print-given given n t counts decisions rounds long same ed er =
     let c : counts ≡ countsOf given = ap (valueOr counts) same in
     ap₂ (λ (m : ℕ) (x : Counts). reportText m t (givenBy x decisions rounds)) long c
     ∙ ap₂ (λ (d r : List ℕ). reportText n t (givenBy (countsOf given) d r)) ed er
+
+-- printing an outcome that is given prints that of the schedule
+pub print-outcome : (P : Protocol) (limit : ℕ) (s : Schedule) (outcome : Outcome) → _≡_ {A = Answer Outcome (Unit {0})} (accepted outcome) (accepted (outcomeOf P limit s))
+    → outcomeText (outcome .decision) (outcome .round) ≡ outcomeShown P s
+print-outcome P limit s outcome e = ap (λ (o : Outcome). outcomeText (o .decision) (o .round)) (ap (valueOr outcome) e)

@@ -1,4 +1,4 @@
--- The length of an output: a number of 64 bits has at most 20 digits, so a report has at most 2,986 bytes, and a refusal at most 56 beside its line.
+-- The length of an output: a number of 64 bits has at most 20 digits, so a report has at most 2,986 bytes, an outcome less, and a refusal at most 56 beside its line.
 -- Assumes nothing.
 use mathlib.Core.List.{List}
 use Prim.Native.Nat.{ℕ, _+_, _^_, _≤_, _<_}
@@ -9,7 +9,7 @@ use Rattle.lines.specs.Lines.{lf}
 use Rattle.fields.specs.Fields.{space}
 use Rattle.run.specs.Report.{Report}
 use Rattle.text.specs.Reading.{longest}
-use Rattle.text.specs.Output.{countsLine, decisionLine, decisionLines, reportText, refusalText}
+use Rattle.text.specs.Output.{countsLine, decisionLine, decisionLines, reportText, outcomeText, refusalText}
 use Rattle.output.specs.Answers.{outputSize}
 use Rattle.text.proofs.Sizes.{field-short, each-short}
 
@@ -31,6 +31,12 @@ report-short n t given hn ht hf h1 hl hm hr =
     let e = field-short 19 (given .last) space (omega arith) in
     let f = field-short 19 (given .messages) lf (omega arith) in
     let lines = each-short n 44 (λ i. decisionLine i (getD (given .decisions) i 2) (getD (given .rounds) i 0)) (λ i l. line-short i _ _ (omega arith) (hr i)) in
+    simp length-append (omega arith)
+
+pub outcome-short : (decision round : ℕ) → round < 2 ^ 64 → length (outcomeText decision round) ≤ outputSize
+unfolding outcomeText
+outcome-short decision round hr =
+    let last = field-short 19 round lf (omega arith) in
     simp length-append (omega arith)
 
 pub refusal-short : (number k : ℕ) (line : List ℕ) → number < 2 ^ 64 → k < 2 ^ 64 → length line ≤ longest → length (refusalText number k line) ≤ outputSize

@@ -1,16 +1,16 @@
-// From a schedule text to the bytes of its report (document 01, "Schedule text and report").
+// From a schedule text to the bytes of its report (document 01, "Schedule text and report") or of its outcome
+// (document 02, K6).
 //
-// `printed` takes any bytes and answers the whole output: the report of an accepted text, or the three
+// `printed` takes any bytes and answers the whole output: what is wanted of an accepted text, or the three
 // lines of a refusal. It has no `requires`.
 mod whole;
 
 ghost use mathlib.Core.Path.{_≡_};
 ghost use Rattle.io.specs.Counts.{Counts};
 ghost use Rattle.sets.specs.Largest.{largest};
-ghost use Rattle.run.specs.Protocol.{fcwfa};
 ghost use Rattle.text.specs.Reading.{longest};
 ghost use Rattle.text.specs.Output.{outputOf};
-ghost use Rattle.output.specs.Answers.{outputIs, OutputKeepsPromises};
+ghost use Rattle.output.specs.Answers.{outputIs, shownOf, OutputKeepsPromises};
 use forms::LONGEST;
 use reader::Reading;
 use sets::zero_bytes;
@@ -26,18 +26,24 @@ pub struct Output {
     pub length: usize,
 }
 
+// What is wanted of an accepted text: the program `bench` prints its report, and `outcome` its outcome.
+pub enum Wanted {
+    Report,
+    Outcome,
+}
+
 // The whole output for a text.
-pub fn printed(text: &[u8]) -> Output
-    ensures output { λ r. ⌜ r ≡ outputIs (outputOf fcwfa (now (text .entry)) largest longest) ⌝ }
+pub fn printed(text: &[u8], wanted: Wanted) -> Output
+    ensures output { λ r. ⌜ r ≡ outputIs (outputOf (shownOf wanted) (now (text .entry)) largest longest) ⌝ }
     ensures fits { λ r. ⌜ Counts (r .length) (r .bytes) ⌝ }
-    ensures promises { λ r. ⌜ OutputKeepsPromises (now (text .entry)) r ⌝ }
+    ensures promises { λ r. ⌜ OutputKeepsPromises wanted (now (text .entry)) r ⌝ }
 {
     let mut votes = zero_bytes();
     let mut crashes = zero_bytes();
     let mut reaches = zero_sets();
     let reading = reader::read(text, &mut votes, &mut crashes, &mut reaches);
     match reading {
-        Reading::Read(n, t) => whole::of_tables(n, t, votes, crashes, reaches),
+        Reading::Read(n, t) => whole::of_tables(wanted, n, t, votes, crashes, reaches),
         Reading::Refused(number, k) => whole::refused(text, number, k),
     }
 }

@@ -1,4 +1,4 @@
-// The two kinds of output: the report of an accepted schedule, and a refusal.
+// The kinds of output: the report and the outcome of an accepted schedule, and a refusal.
 ghost use mathlib.Core.Path.{_≡_};
 ghost use mathlib.Core.Bool.{true};
 ghost use Prim.Native.Nat.{_≤_};
@@ -8,17 +8,19 @@ ghost use Rattle.sets.specs.Largest.{largest};
 ghost use Rattle.schedule.specs.Schedule.{scheduleOf};
 ghost use Rattle.schedule.specs.Questions.{answersOf, question};
 ghost use Rattle.run.specs.Protocol.{fcwfa};
-ghost use Rattle.run.specs.Report.{report};
 ghost use Rattle.text.specs.Reading.{longest};
-ghost use Rattle.text.specs.Output.{reportText, refusalText};
-ghost use Rattle.output.specs.Answers.{zeros, outputSize, outputIs};
+ghost use Rattle.text.specs.Output.{reportShown, outcomeShown, refusalText};
+ghost use Rattle.output.specs.Answers.{zeros, outputSize, outputIs, shownOf};
 use crate::OUTPUT;
 use crate::Output;
+use crate::Wanted;
+use report::put_outcome;
 use report::put_refusal;
 use report::put_report;
 use sets::Set;
 use sets::WIDTH;
 use sets::zero_bytes;
+use simulator::Concluded;
 use simulator::Simulated;
 
 // A buffer for the output.
@@ -39,7 +41,7 @@ fn completed(
     decided: &mut [u8],
 ) -> Output
     requires accepted { ⌜ question (scheduleOf n t (now votes) (now crashes) (now reaches)) largest (answersOf n (length (now decisions)) (length (now decided))) ≡ 0 ⌝ }
-    ensures output { λ r. ⌜ r ≡ outputIs (reportText n t (report fcwfa (scheduleOf n t (now (votes .entry)) (now (crashes .entry)) (now (reaches .entry))))) ⌝ }
+    ensures output { λ r. ⌜ r ≡ outputIs (reportShown fcwfa (scheduleOf n t (now (votes .entry)) (now (crashes .entry)) (now (reaches .entry)))) ⌝ }
     ensures fits { λ r. ⌜ r .length ≤ outputSize ⌝ }
 {
     let mut bytes = blank_output();
@@ -58,7 +60,7 @@ fn completed(
 }
 
 // The report of the accepted schedule in the first n entries of three tables.
-pub fn of_tables(
+fn report_of_tables(
     n: usize,
     t: usize,
     votes: [u8; WIDTH],
@@ -67,7 +69,7 @@ pub fn of_tables(
 ) -> Output
     requires size { ⌜ n ≤ largest ⌝ }
     requires accepted { ⌜ question (scheduleOf n t (take n votes) (take n crashes) (take n reaches)) largest true ≡ 0 ⌝ }
-    ensures output { λ r. ⌜ r ≡ outputIs (reportText n t (report fcwfa (scheduleOf n t (take n votes) (take n crashes) (take n reaches)))) ⌝ }
+    ensures output { λ r. ⌜ r ≡ outputIs (reportShown fcwfa (scheduleOf n t (take n votes) (take n crashes) (take n reaches))) ⌝ }
     ensures fits { λ r. ⌜ r .length ≤ outputSize ⌝ }
 {
     let mut decisions = zero_bytes();
@@ -81,6 +83,47 @@ pub fn of_tables(
         &mut decisions[..n],
         &mut decided[..n],
     )
+}
+
+// The outcome of a schedule in tables, which is an accepted one.
+fn concluded(n: usize, t: usize, votes: &[u8], crashes: &[u8], reaches: &[Set]) -> Output
+    requires accepted { ⌜ question (scheduleOf n t (now votes) (now crashes) (now reaches)) largest true ≡ 0 ⌝ }
+    ensures output { λ r. ⌜ r ≡ outputIs (outcomeShown fcwfa (scheduleOf n t (now (votes .entry)) (now (crashes .entry)) (now (reaches .entry)))) ⌝ }
+    ensures fits { λ r. ⌜ r .length ≤ outputSize ⌝ }
+{
+    let mut bytes = blank_output();
+    let answer = simulator::conclude(n, t, votes, crashes, reaches);
+    let Concluded::Decided(outcome) = answer else {
+        return Output {
+            bytes: bytes,
+            length: 0,
+        };
+    };
+    let end = put_outcome(&mut bytes, 0, outcome);
+    Output {
+        bytes: bytes,
+        length: end,
+    }
+}
+
+// What is wanted of the accepted schedule in the first n entries of three tables.
+pub fn of_tables(
+    wanted: Wanted,
+    n: usize,
+    t: usize,
+    votes: [u8; WIDTH],
+    crashes: [u8; WIDTH],
+    reaches: [Set; WIDTH],
+) -> Output
+    requires size { ⌜ n ≤ largest ⌝ }
+    requires accepted { ⌜ question (scheduleOf n t (take n votes) (take n crashes) (take n reaches)) largest true ≡ 0 ⌝ }
+    ensures output { λ r. ⌜ r ≡ outputIs (shownOf wanted (scheduleOf n t (take n votes) (take n crashes) (take n reaches))) ⌝ }
+    ensures fits { λ r. ⌜ r .length ≤ outputSize ⌝ }
+{
+    match wanted {
+        Wanted::Report => report_of_tables(n, t, votes, crashes, reaches),
+        Wanted::Outcome => concluded(n, t, &votes[..n], &crashes[..n], &reaches[..n]),
+    }
 }
 
 // The three lines of a refusal, the last of which is line k of the text.

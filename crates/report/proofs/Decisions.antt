@@ -1,17 +1,18 @@
--- Tables of decisions, and what is written of them. Assumes nothing.
+-- Tables of decisions and outcomes, and what is written of them. Assumes nothing.
 use mathlib.Core.Path.{_≡_}
 use mathlib.Core.List.{List, []}
 use mathlib.Core.Bool.{true, false}
 use Prim.Native.Nat.{ℕ, _≤_, _<_}
 use native.Mathlib.Omega.{arith}
-use borrow.Author.Tests.{eq-eqb, ne-eqb, eqb-true, leb-true, le-leb}
+use borrow.Author.Tests.{eq-eqb, ne-eqb, eqb-true, leb-true, le-leb, lt-leb}
 use lib.ListN.{length, getD}
 use lib.Dec.{leb}
 use Rattle.laws.proofs.Counting.{count-of-all, count-full}
 use Rattle.simulator.specs.declared.Counts.{Counts}
+use Rattle.simulator.specs.declared.Outcome.{Outcome}
 use Rattle.simulator.specs.Answers.{givenBy}
-use Rattle.text.specs.Output.{reportText}
-use Rattle.report.specs.Shown.{areDecisions, shown}
+use Rattle.text.specs.Output.{reportText, outcomeText}
+use Rattle.report.specs.Shown.{areDecisions, shown, shownOutcome}
 
 -- a table passes the test where each of its entries does, both ways
 pub decisions-all : (decisions : List ℕ) → areDecisions decisions ≡ true → (i : ℕ) → i < length decisions → getD decisions i 0 ≤ 2
@@ -37,3 +38,12 @@ module _ (t : ℕ) (counts : Counts) (decisions rounds : List ℕ) where
   pub shown-none : length rounds ≡ length decisions → areDecisions decisions ≡ false → [] ≡ shown t counts decisions rounds
   unfolding shown
   shown-none e h = rw (eq-eqb (length rounds) (length decisions) e, h)
+
+module _ (outcome : Outcome) where
+  pub shown-outcome : outcome .decision ≤ 2 → shownOutcome outcome ≡ outcomeText (outcome .decision) (outcome .round)
+  unfolding shownOutcome
+  shown-outcome l = rw (le-leb (outcome .decision) 2 l)
+
+  pub no-outcome-shown : 2 < outcome .decision → [] ≡ shownOutcome outcome
+  unfolding shownOutcome
+  no-outcome-shown l = rw (lt-leb (outcome .decision) 2 l)

@@ -1,4 +1,4 @@
--- What is written of given counts and tables.
+-- What is written of given counts and tables, and of an outcome.
 use Prim.Native.Nat.{ℕ}
 use mathlib.Core.List.{List, []}
 use mathlib.Core.Bool.{Bool, cond, _&&_}
@@ -6,8 +6,9 @@ use lib.ListN.{length, getD}
 use lib.Dec.{leb, eqb}
 use Rattle.laws.specs.Below.{count}
 use Rattle.simulator.specs.declared.Counts.{Counts}
+use Rattle.simulator.specs.declared.Outcome.{Outcome}
 use Rattle.simulator.specs.Answers.{givenBy}
-use Rattle.text.specs.Output.{reportText}
+use Rattle.text.specs.Output.{reportText, outcomeText}
 
 -- "For each process the bench gives decision 0, 1 or 2 (none)": whether each of these is a decision
 unfoldable pub areDecisions : List ℕ → Bool
@@ -19,3 +20,7 @@ shown t counts decisions rounds =
     cond (eqb (length rounds) (length decisions) && areDecisions decisions)
     (reportText (length decisions) t (givenBy counts decisions rounds))
     []
+
+-- the two lines of an outcome; nothing, if it holds what is no decision
+unfoldable pub shownOutcome : Outcome → List ℕ
+shownOutcome outcome = cond (leb (outcome .decision) 2) (outcomeText (outcome .decision) (outcome .round)) []

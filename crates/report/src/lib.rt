@@ -1,18 +1,18 @@
-// The lines of a report and of a refusal (document 01, "Schedule text and report"), written into a lent
-// buffer.
+// The lines of a report, of an outcome and of a refusal (document 01, "Schedule text and report"; document 02,
+// K6), written into a lent buffer.
 //
-// `put_report` writes the report of given counts and tables, `put_refusal` the three lines of a refusal.
-// Both take anything, write what specs/Shown.antt and the definitions of the crate `text` give, and have no
-// `requires`. What is given is neither read nor run here.
+// `put_report` writes the report of given counts and tables, `put_outcome` the two lines of an outcome, and
+// `put_refusal` the three lines of a refusal. Each takes anything, writes what specs/Shown.antt and the
+// definitions of the crate `text` give, and has no `requires`. What is given is neither read nor run here.
 ghost use mathlib.Core.Path.{_≡_};
 ghost use mathlib.Core.List.{List};
 ghost use mathlib.Core.Bool.{true};
 ghost use Prim.Native.Nat.{ℕ, _+_, _^_, _≤_, _<_};
 ghost use lib.ListN.{length};
 ghost use Rattle.simulator.specs.Answers.{givenBy};
-ghost use Rattle.text.specs.Output.{decisionLetter, decisionLine, decisionLines, countsLine, reportText, refusalText};
+ghost use Rattle.text.specs.Output.{decisionLetter, decidedFields, decisionLine, decisionLines, countsLine, reportText, refusalText};
 ghost use Rattle.buffer.specs.Buffer.{Writes};
-ghost use Rattle.report.specs.Shown.{areDecisions, shown};
+ghost use Rattle.report.specs.Shown.{areDecisions, shown, shownOutcome};
 use buffer::put;
 use buffer::put_byte;
 use buffer::put_field;
@@ -20,6 +20,7 @@ use fields::SPACE;
 use laws::bit;
 use lines::LF;
 use simulator::Counts;
+use simulator::Outcome;
 
 const DASH: u8 = 45;
 
@@ -34,15 +35,23 @@ fn decision_letter(decision: u8) -> u8
     48 + decision
 }
 
+// Writes a decision and its round, at the end of a line.
+fn put_decided(bytes: &mut [u8], at: usize, decision: u8, round: u8) -> usize
+    requires one { ⌜ decision ≤ 2 ⌝ }
+    ensures written { λ r. ⌜ Writes (now (bytes .entry)) at (now (bytes .exit)) r (decidedFields decision round) ⌝ }
+{
+    let decided = put_byte(bytes, at, decision_letter(decision));
+    let space = put_byte(bytes, decided, SPACE);
+    put_field(bytes, space, round as usize, LF)
+}
+
 // Writes the line of the process at place i.
 fn put_decision(bytes: &mut [u8], at: usize, i: usize, decision: u8, round: u8) -> usize
     requires small { ⌜ (i + 1 < 2 ^ 64) × (decision ≤ 2) ⌝ }
     ensures written { λ r. ⌜ Writes (now (bytes .entry)) at (now (bytes .exit)) r (decisionLine i decision round) ⌝ }
 {
     let own = put_field(bytes, at, i + 1, SPACE);
-    let decided = put_byte(bytes, own, decision_letter(decision));
-    let space = put_byte(bytes, decided, SPACE);
-    put_field(bytes, space, round as usize, LF)
+    put_decided(bytes, own, decision, round)
 }
 
 // Writes the lines of the processes in order.
@@ -125,6 +134,18 @@ pub fn put_report(
         return at;
     }
     put_lines(bytes, at, t, counts, decisions, decided)
+}
+
+// Writes the two lines of an outcome from place `at` on. What is no decision is not written.
+pub fn put_outcome(bytes: &mut [u8], at: usize, outcome: Outcome) -> usize
+    ensures written { λ r. ⌜ Writes (now (bytes .entry)) at (now (bytes .exit)) r (shownOutcome outcome) ⌝ }
+{
+    let decision = outcome.decision;
+    if decision > 2 {
+        return at;
+    }
+    let heading = put(bytes, at, b"decision round\n");
+    put_decided(bytes, heading, decision, outcome.round)
 }
 
 // Writes the three lines of a refusal from place `at` on: its heading, the number and the line's number,

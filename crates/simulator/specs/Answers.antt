@@ -1,7 +1,8 @@
--- What `simulate` answers, and what the two answer tables hold after the call.
+-- What `simulate` answers, and what the two answer tables hold after the call; and what `conclude` answers.
 use Prim.Native.Nat.{ℕ}
 use mathlib.Core.Path.{_≡_}
 use mathlib.Core.List.{List}
+use mathlib.Core.Bool.{true}
 use lib.ListN.{length}
 use Rattle.laws.specs.Answer.{Answer, accepted, refused, answer, placeAfter}
 use Rattle.sets.specs.Largest.{largest}
@@ -10,9 +11,13 @@ use Rattle.schedule.specs.Questions.{answersOf, question}
 use Rattle.run.specs.Protocol.{Protocol, fcwfa}
 use Rattle.run.specs.Report.{Report, report}
 use Rattle.run.specs.Given.{GivenPromises}
+use Rattle.run.specs.Outcome.{outcomeRound, outcomeDecision, OutcomePromises}
 use Rattle.simulator.specs.declared.Counts.{Counts}
 use Rattle.simulator.specs.declared.Simulated.{Simulated}
 use Rattle.simulator.specs.declared.Simulated.the-variants.{Completed, Refused}
+use Rattle.simulator.specs.declared.Outcome.{Outcome}
+use Rattle.simulator.specs.declared.Concluded.{Concluded}
+use Rattle.simulator.specs.declared.Concluded.the-variants as Concluded
 
 -- for each case of the answer's enum document 01's number and values; `tt` stands for nothing: a refusal gives its number only
 abbrev pub simulatedIs : Simulated → Answer Counts (Unit {0})
@@ -62,3 +67,26 @@ pub record Simulates (s : Schedule) (decisions rounds : List ℕ) (r : Simulated
   pub decisions-given : decisionsNow ≡ decisionsAfter fcwfa largest s decisions rounds
   pub rounds-given : roundsNow ≡ roundsAfter fcwfa largest s decisions rounds
   pub promises : AnswersKeepPromises s r decisionsNow roundsNow
+
+-- for each case of the answer's enum document 02's values, and the number of a refusal
+abbrev pub concludedIs : Concluded → Answer Outcome (Unit {0})
+concludedIs (Concluded.Decided outcome) = accepted outcome
+concludedIs (Concluded.Refused number) = refused number tt
+
+-- A call with a schedule alone: its questions are those of a schedule without answer tables.
+module _ (P : Protocol) (limit : ℕ) (s : Schedule) where
+  -- "answers that value and round"
+  abbrev pub outcomeOf : Outcome
+  outcomeOf = record { decision = outcomeDecision P s; round = outcomeRound P s }
+
+  unfoldable pub outcomeAnswer : Answer Outcome (Unit {0})
+  outcomeAnswer = answer (question s limit true) outcomeOf tt
+
+-- What is promised of an outcome, of the answer: wherever it is one.
+pub record AnswerIsOutcome (s : Schedule) (r : Concluded) : Type 0 where
+  pub kept : (outcome : Outcome) → concludedIs r ≡ accepted outcome → OutcomePromises s (outcome .decision) (outcome .round)
+
+-- What the call promises of its answer.
+pub record Concludes (s : Schedule) (r : Concluded) : Type 0 where
+  pub answered : concludedIs r ≡ outcomeAnswer fcwfa largest s
+  pub promises : AnswerIsOutcome s r

@@ -1,12 +1,15 @@
-// Runs a schedule given in tables to its end (document 01, "Who hears whom").
+// Runs a schedule given in tables, to its end (document 01, "Who hears whom") or until its outcome is known
+// (document 02, K6).
 //
 // `simulate` has the questions asked and the rounds played by `play_rounds` of the crate `execution`, fills
-// the two answer tables and answers the counts. It takes anything, and has no `requires`.
+// the two answer tables and answers the counts. `conclude` has them asked and played by `play_to_decision`, and
+// answers a decision and its round. Each takes anything, and has no `requires`.
 mod tables;
 
 ghost use Rattle.schedule.specs.Schedule.{scheduleOf};
-ghost use Rattle.simulator.specs.Answers.{Simulates};
+ghost use Rattle.simulator.specs.Answers.{Simulates, Concludes};
 use execution::play_rounds;
+use execution::play_to_decision;
 use sets::Set;
 use sets::WIDTH;
 
@@ -21,6 +24,18 @@ pub struct Counts {
 // The counts of the run, or the number of the first question whose answer is no.
 pub enum Simulated {
     Completed(Counts),
+    Refused(u8),
+}
+
+// The outcome of a schedule: what each process decides that decides, and the first round in which one does.
+pub struct Outcome {
+    pub decision: u8,
+    pub round: u8,
+}
+
+// The outcome, or the number of the first question whose answer is no.
+pub enum Concluded {
+    Decided(Outcome),
     Refused(u8),
 }
 
@@ -55,4 +70,20 @@ pub fn simulate(
     let members = ran.members;
     tables::fill(members, decisions, rounds);
     Simulated::Completed(tables::counts_of(t, crashes, &rounds[..], ran.messages))
+}
+
+// The outcome of the schedule of these tables: rounds are played until one in which some process decides.
+pub fn conclude(n: usize, t: usize, votes: &[u8], crashes: &[u8], reaches: &[Set]) -> Concluded
+    ensures concluded { λ r. ⌜ Concludes (scheduleOf n t (now (votes .entry)) (now (crashes .entry)) (now (reaches .entry))) r ⌝ }
+{
+    let first = play_to_decision(n, t, votes, crashes, reaches);
+    let question = first.question;
+    if question != 0 {
+        return Concluded::Refused(question);
+    }
+    let decider = first.member;
+    Concluded::Decided(Outcome {
+        decision: tables::decision(decider),
+        round: first.round,
+    })
 }

@@ -13,7 +13,7 @@ use member::Member;
 use sets::WIDTH;
 
 // The decision of a member, 2 for none.
-fn decision(m: Member) -> u8
+pub fn decision(m: Member) -> u8
     ensures is { λ r. ⌜ r ≡ cond (eqb (m .decided) 0) 2 (m .estimate) ⌝ }
 {
     if m.decided == 0 { 2 } else { m.estimate }

@@ -23,8 +23,8 @@ use Rattle.run.specs.Protocol.{fcwfa}
 use Rattle.run.proofs.Theorem.{accepted-run}
 use Rattle.text.specs.Forms.{sizesHeading, processesHeading, sizesAt, entryAt}
 use Rattle.text.specs.Reading.{isFound, onLine, sizesIn, scheduleIn, entryQuestions, headQuestions, tailQuestions, restQuestions, textQuestions, textAnswer}
-use Rattle.text.specs.Output.{printed, outputOf}
-use Rattle.text.specs.Facts.{PrintsPromises}
+use Rattle.text.specs.Output.{reportShown, outcomeShown, printed, outputOf}
+use Rattle.text.specs.Facts.{PrintsPromises, PrintsOutcome}
 
 -- The questions of one line: they come to 0, or the refusal has that line.
 pub line-passed : (k q : ℕ) → onLine k q ≡ accepted tt → q ≡ 0
@@ -188,12 +188,21 @@ module _ (text : List ℕ) where
         let both = text-passed s e in
         subst (λ (x : Schedule). question x limit true ≡ 0) (both .1) (passed-question (both .0))
 
-    pub prints-promises : (s : Schedule) → textAnswer text limit most ≡ accepted s → PrintsPromises s (outputOf fcwfa text limit most)
+    pub prints-promises : (s : Schedule) → textAnswer text limit most ≡ accepted s → PrintsPromises s (outputOf (reportShown fcwfa) text limit most)
     unfolding outputOf
     prints-promises s e = record {
       given = _;
-      prints = ap (printed fcwfa text) e;
+      prints = ap (printed (reportShown fcwfa) text) e;
       promises = accepted-run s limit true (accepted-schedule s e) .given;
+    }
+
+    pub prints-outcome : (s : Schedule) → textAnswer text limit most ≡ accepted s → PrintsOutcome s (outputOf (outcomeShown fcwfa) text limit most)
+    unfolding outputOf
+    prints-outcome s e = record {
+      decision = _;
+      round = _;
+      prints = ap (printed (outcomeShown fcwfa) text) e;
+      promises = accepted-run s limit true (accepted-schedule s e) .outcome;
     }
 
     -- the refusal is that of one of the questions, and each has a line up to n + 4

@@ -18,7 +18,7 @@ use Rattle.fields.specs.Fields.{space}
 use Rattle.fields.proofs.Digits.{same-number}
 use Rattle.run.specs.Report.{Report}
 use Rattle.text.specs.Written.{eachLine}
-use Rattle.text.specs.Output.{countsHeading, decisionsHeading, refusedHeading, decisionLetter, countsLine, decisionLine, decisionLines, reportText, refusalText}
+use Rattle.text.specs.Output.{countsHeading, decisionsHeading, refusedHeading, outcomeHeading, decisionLetter, decidedFields, countsLine, decisionLine, decisionLines, reportText, outcomeText, refusalText}
 use Rattle.text.specs.Facts.{SaysTheSame}
 
 -- The letter of a decision, `-` for none, which comes before all digits, or the decision's digit, is that of no other decision.
@@ -63,18 +63,21 @@ module _ (end : ℕ) (low : end < letter 0) where
   same-field x y rest others e =
       same-number end low x y rest others (sym (append-assoc (decimal x) (end ∷ []) rest) ∙ e ∙ append-assoc (decimal y) (end ∷ []) others)
 
+-- A decision and its round at the end of a line, with what follows it.
+same-decided : (d r e q : ℕ) (rest others : List ℕ) → decidedFields d r ++ rest ≡ decidedFields e q ++ others → ((d ≡ e) × (r ≡ q)) × (rest ≡ others)
+same-decided d r e q rest others h =
+    let letters : decisionLetter d ≡ decisionLetter e = cc h in
+    let round = same-field lf (omega arith) r q rest others (cc h) in
+    ((same-letter d e letters, round .0), round .1)
+
 -- The line of a decision, with what follows it.
-decision-parts : (i decision round : ℕ) (rest : List ℕ)
-    → decisionLine i decision round ++ rest ≡ field (i + 1) space ++ (decisionLetter decision ∷ space ∷ (field round lf ++ rest))
+decision-parts : (i decision round : ℕ) (rest : List ℕ) → decisionLine i decision round ++ rest ≡ field (i + 1) space ++ (decidedFields decision round ++ rest)
 unfolding decisionLine
-decision-parts i decision round rest = simp append-assoc
+decision-parts i decision round rest = append-assoc (field (i + 1) space) (decidedFields decision round) rest
 
 same-decision : (i d r e q : ℕ) (rest others : List ℕ) → decisionLine i d r ++ rest ≡ decisionLine i e q ++ others → ((d ≡ e) × (r ≡ q)) × (rest ≡ others)
 same-decision i d r e q rest others h =
-    let id = same-field space (omega arith) (i + 1) (i + 1) _ _ (sym (decision-parts i d r rest) ∙ h ∙ decision-parts i e q others) .1 in
-    let letters : decisionLetter d ≡ decisionLetter e = cc id in
-    let round = same-field lf (omega arith) r q rest others (cc id) in
-    ((same-letter d e letters, round .0), round .1)
+    same-decided d r e q rest others (same-field space (omega arith) (i + 1) (i + 1) _ _ (sym (decision-parts i d r rest) ∙ h ∙ decision-parts i e q others) .1)
 
 -- Lines one after the other, where line i of both with what follows it gives P i and that what follows is the same.
 module _ (line other : ℕ → List ℕ) (P : ℕ → Type 0) (one : (i : ℕ) (rest others : List ℕ) → line i ++ rest ≡ other i ++ others → P i × (rest ≡ others)) where
@@ -131,11 +134,23 @@ one-reading n t a m u b e =
       rounds = λ i l. each i l .1;
     }
 
--- A refusal is no report: already their first letters differ. And it has one reading, too.
+pub one-outcome : (d r e q : ℕ) → outcomeText d r ≡ outcomeText e q → (d ≡ e) × (r ≡ q)
+unfolding outcomeText
+one-outcome d r e q h =
+    let values = same-rest outcomeHeading _ _ h in
+    same-decided d r e q [] [] (append-nil _ ∙ values ∙ sym (append-nil _)) .0
+
+-- A refusal is no report and no outcome: already their first letters differ. And it has one reading, too.
 pub no-report : (number k : ℕ) (line : List ℕ) (m u : ℕ) (b : Report) → refusalText number k line ≡ reportText m u b → ⊥
 unfolding refusalText reportText
 no-report number k line m u b e =
     let letters : _≡_ {A = ℕ} 114 110 = ap (λ (xs : List ℕ). getD xs 0 0) e in
+    absurd (omega arith)
+
+pub no-outcome : (number k : ℕ) (line : List ℕ) (d r : ℕ) → refusalText number k line ≡ outcomeText d r → ⊥
+unfolding refusalText outcomeText
+no-outcome number k line d r e =
+    let letters : _≡_ {A = ℕ} 114 100 = ap (λ (xs : List ℕ). getD xs 0 0) e in
     absurd (omega arith)
 
 pub one-refusal : (number k : ℕ) (line : List ℕ) (m j : ℕ) (other : List ℕ) → refusalText number k line ≡ refusalText m j other → (number ≡ m) × (k ≡ j)

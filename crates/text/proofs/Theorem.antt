@@ -11,14 +11,15 @@ use Rattle.schedule.specs.Schedule.{Schedule}
 use Rattle.schedule.proofs.Accepted.{question-accepted}
 use Rattle.run.specs.Protocol.{Protocol}
 use Rattle.run.specs.Report.{Report, report}
+use Rattle.run.specs.Outcome.{outcomeRound, outcomeDecision}
 use Rattle.text.specs.Reading.{longest, textAnswer}
-use Rattle.text.specs.Output.{reportText, refusalText, printed, outputOf}
-use Rattle.text.specs.Facts.{SaysTheSame, TextPromises, OutputPromises, PrintedKeepsPromises, TextLengths, AllReadBack}
-use Rattle.text.proofs.Accepted.{accepted-schedule, line-bound, line-short, numbered, prints-promises}
+use Rattle.text.specs.Output.{reportText, outcomeText, refusalText, reportShown, outcomeShown, printed, outputOf}
+use Rattle.text.specs.Facts.{SaysTheSame, TextPromises, RefusalsSay, OutputPromises, OutcomeOutputPromises, PrintedKeepsPromises, TextLengths, AllReadBack}
+use Rattle.text.proofs.Accepted.{accepted-schedule, line-bound, line-short, numbered, prints-promises, prints-outcome}
 use Rattle.text.proofs.Inverse.{written}
 use Rattle.text.proofs.ReadBack.{reads-back}
 use Rattle.text.proofs.Sizes.{text-long, text-short}
-use Rattle.text.proofs.Says.{one-reading, no-report, one-refusal}
+use Rattle.text.proofs.Says.{one-reading, one-outcome, no-report, no-outcome, one-refusal}
 
 pub accepted-texts : (limit most : ℕ) → limit ≤ 99 → TextPromises limit most
 accepted-texts limit most high = record {
@@ -30,27 +31,49 @@ accepted-texts limit most high = record {
   numbered = λ text. numbered text limit most;
 }
 
+-- what is printed for a refused text is its refusal
+module _ (shown : Schedule → List ℕ) (limit most : ℕ) where
+  refusal-printed : (text : List ℕ) (number k : ℕ) → textAnswer text limit most ≡ refused number k → outputOf shown text limit most ≡ refusalText number k (lineOf k text)
+  unfolding outputOf
+  refusal-printed text number k e = ap (printed shown text) e
+
+  refusals-say : RefusalsSay shown limit most
+  refusals-say = record {
+    refusal-says = λ text number k e m j line h. one-refusal number k (lineOf k text) m j line (sym (refusal-printed text number k e) ∙ h);
+  }
+
 module _ (P : Protocol) (limit most : ℕ) where
   -- whatever report is read in what is printed for an accepted text says the same as that of the run of its schedule
   printed-says : (text : List ℕ) (s : Schedule) → textAnswer text limit most ≡ accepted s
-      → (m u : ℕ) (b : Report) → outputOf P text limit most ≡ reportText m u b → SaysTheSame (s .n) (s .t) (report P s) m u b
+      → (m u : ℕ) (b : Report) → outputOf (reportShown P) text limit most ≡ reportText m u b → SaysTheSame (s .n) (s .t) (report P s) m u b
   unfolding outputOf
-  printed-says text s e m u b h = one-reading (s .n) (s .t) (report P s) m u b (sym (ap (printed P text) e) ∙ h)
+  printed-says text s e m u b h = one-reading (s .n) (s .t) (report P s) m u b (sym (ap (printed (reportShown P) text) e) ∙ h)
 
-  -- what is printed for a refused text is its refusal
-  refusal-printed : (text : List ℕ) (number k : ℕ) → textAnswer text limit most ≡ refused number k → outputOf P text limit most ≡ refusalText number k (lineOf k text)
+  -- and whatever outcome is read is that of its schedule
+  outcome-says : (text : List ℕ) (s : Schedule) → textAnswer text limit most ≡ accepted s
+      → (v r : ℕ) → outputOf (outcomeShown P) text limit most ≡ outcomeText v r → (outcomeDecision P s ≡ v) × (outcomeRound P s ≡ r)
   unfolding outputOf
-  refusal-printed text number k e = ap (printed P text) e
+  outcome-says text s e v r h = one-outcome (outcomeDecision P s) (outcomeRound P s) v r (sym (ap (printed (outcomeShown P) text) e) ∙ h)
 
   pub outputs : OutputPromises P limit most
   outputs = record {
     says = printed-says;
-    told-apart = λ text number k e m u b h. no-report number k (lineOf k text) m u b (sym (refusal-printed text number k e) ∙ h);
-    refusal-says = λ text number k e m j line h. one-refusal number k (lineOf k text) m j line (sym (refusal-printed text number k e) ∙ h);
+    told-apart = λ text number k e m u b h. no-report number k (lineOf k text) m u b (sym (refusal-printed (reportShown P) limit most text number k e) ∙ h);
+    refusals = refusals-say (reportShown P) limit most;
+  }
+
+  pub outcome-outputs : OutcomeOutputPromises P limit most
+  outcome-outputs = record {
+    says = outcome-says;
+    told-apart = λ text number k e v r h. no-outcome number k (lineOf k text) v r (sym (refusal-printed (outcomeShown P) limit most text number k e) ∙ h);
+    refusals = refusals-say (outcomeShown P) limit most;
   }
 
 pub printed-keeps-promises : (limit most : ℕ) → PrintedKeepsPromises limit most
-printed-keeps-promises limit most = record { printed = λ text s. prints-promises text limit most s }
+printed-keeps-promises limit most = record {
+  report-printed = λ text s. prints-promises text limit most s;
+  outcome-printed = λ text s. prints-outcome text limit most s;
+}
 
 pub text-lengths : TextLengths
 text-lengths = record { long = text-long }

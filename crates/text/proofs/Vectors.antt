@@ -5,7 +5,7 @@ use mathlib.Core.Bool.{true}
 use lib.Count.{ones, onesIn}
 use lib.ListN.{length}
 use Rattle.laws.specs.Test.{within}
-use Rattle.laws.specs.Below.{sum, count, tabulate, fold}
+use Rattle.laws.specs.Below.{sum, count, least, tabulate, fold}
 use Rattle.laws.specs.Answer.{ask, andThen, askEach, answer, andNext, nextEach}
 use Rattle.lines.specs.Lines.{lineLength, afterLine, afterLines, lineOf}
 use Rattle.fields.specs.Found.{thenRead}
@@ -21,14 +21,19 @@ use Rattle.schedule.specs.Questions.{reachRight, entryQuestion, tablesOf, quest
 use Rattle.run.specs.Run.{completesRound, isHeard, delivered, codeHeard, rowOf, stateAfter, nextState, played, opened, statesAfter, final}
 use Rattle.run.specs.Report.{sentBy, messages, decisionOf, ahead, before, firstWith, firstOf, lastOf}
 use Rattle.text.specs.Forms.{sizesAt, entryAt}
+use Rattle.run.specs.Outcome.{lowestDecided, outcomeRound, outcomeDecision}
 use Rattle.text.specs.Written.{eachLine, sizesLine, lettersOf, processLine, processLines, textOf, longestWritten}
 use Rattle.text.specs.Reading.{onLine, scheduleIn, entryQuestions, headQuestions, tailQuestions, restQuestions, textQuestions, textAnswer}
-use Rattle.text.specs.Output.{decisionLetter, countsLine, decisionLine, decisionLines, reportText, refusalText, outputOf}
-use Rattle.text.specs.Vectors.{TextVectors, longestSchedule, LengthVectors}
+use Rattle.text.specs.Output.{decisionLetter, countsLine, decisionLine, decisionLines, reportText, outcomeText, refusalText, outputOf}
+use Rattle.text.specs.Vectors.{TextVectors, OutcomeTextVectors, longestSchedule, LengthVectors}
 
 pub text-vectors : TextVectors
 unfolding ones onesIn within sum count tabulate fold ask answer andNext nextEach lineLength afterLine afterLines lineOf thenRead isDigit decimalIn decimal startsWith hasByte ended numberField digitField reachField stopped says codes told zerosOnly quiet enough ruleMet firstEstimate lowered toldValue byRule becomes names crashesIn reachRight entryQuestion completesRound isHeard delivered codeHeard rowOf stateAfter nextState played opened statesAfter final sentBy messages decisionOf ahead before firstWith firstOf lastOf sizesAt entryAt field eachLine onLine scheduleIn entryQuestions headQuestions tailQuestions restQuestions textQuestions textAnswer decisionLetter countsLine decisionLine decisionLines reportText refusalText outputOf
 text-vectors = refl
+
+pub outcome-text-vectors : OutcomeTextVectors
+unfolding ones onesIn within sum count tabulate fold least ask answer andNext nextEach lineLength afterLine afterLines lineOf thenRead isDigit decimalIn decimal startsWith hasByte ended numberField digitField reachField stopped says codes told zerosOnly quiet enough ruleMet firstEstimate lowered toldValue byRule becomes names crashesIn reachRight entryQuestion completesRound isHeard delivered codeHeard rowOf stateAfter nextState played opened statesAfter decisionOf lowestDecided outcomeRound outcomeDecision sizesAt entryAt field onLine scheduleIn entryQuestions headQuestions tailQuestions restQuestions textQuestions textAnswer decisionLetter outcomeText refusalText outputOf
+outcome-text-vectors = refl
 
 longest-accepted : question longestSchedule largest true ≡ 0
 unfolding within sum count fold ask andThen askEach names crashesIn reachRight entryQuestion tablesOf question

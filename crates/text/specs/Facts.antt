@@ -1,6 +1,7 @@
 -- What holds of reading and of what is printed. Proved in proofs/Theorem.antt, and assumes nothing:
 -- `accepted-texts : (limit most : ℕ) → limit ≤ 99 → TextPromises limit most`,
 -- `outputs : (P : Protocol) (limit most : ℕ) → OutputPromises P limit most`,
+-- `outcome-outputs : (P : Protocol) (limit most : ℕ) → OutcomeOutputPromises P limit most`,
 -- `printed-keeps-promises : (limit most : ℕ) → PrintedKeepsPromises limit most`.
 use Prim.Native.Nat.{ℕ, _+_, _≤_, _<_}
 use mathlib.Core.Path.{_≡_}
@@ -15,15 +16,23 @@ use Rattle.schedule.specs.Questions.{question}
 use Rattle.run.specs.Protocol.{Protocol, fcwfa}
 use Rattle.run.specs.Report.{Report, report}
 use Rattle.run.specs.Given.{GivenPromises}
+use Rattle.run.specs.Outcome.{outcomeRound, outcomeDecision, OutcomePromises}
 use Rattle.text.specs.Written.{textOf, longestWritten, textLength}
 use Rattle.text.specs.Reading.{longest, sizesIn, textAnswer}
-use Rattle.text.specs.Output.{reportText, refusalText, outputOf}
+use Rattle.text.specs.Output.{reportText, outcomeText, refusalText, reportShown, outcomeShown, outputOf}
 
 -- the bytes print what is given for the schedule, and what is given keeps the promises
 pub record PrintsPromises (s : Schedule) (bytes : List ℕ) : Type 0 where
   pub given : Report
   pub prints : bytes ≡ reportText (s .n) (s .t) given
   pub promises : GivenPromises s given
+
+-- the bytes print an outcome of the schedule that keeps the promises
+pub record PrintsOutcome (s : Schedule) (bytes : List ℕ) : Type 0 where
+  pub decision : ℕ
+  pub round : ℕ
+  pub prints : bytes ≡ outcomeText decision round
+  pub promises : OutcomePromises s decision round
 
 -- Two reports that are printed alike say the same: the sizes, the counts, and the decision and the round of each process. So what is printed has one
 -- reading. Proved in proofs/Says.antt:
@@ -51,20 +60,36 @@ pub record TextPromises (limit most : ℕ) : Type 0 where
   -- a refusal has a number other than 0
   pub numbered : (text : List ℕ) (number k : ℕ) → textAnswer text limit most ≡ refused number k → number ≡ 0 → ⊥
 
--- What holds of what is printed, under any protocol.
+-- What holds of what is printed for a refused text, whatever is shown of an accepted schedule: the number and the line's number that are read in it are
+-- those of the refusal.
+pub record RefusalsSay (shown : Schedule → List ℕ) (limit most : ℕ) : Type 0 where
+  pub refusal-says : (text : List ℕ) (number k : ℕ) → textAnswer text limit most ≡ refused number k
+      → (m j : ℕ) (line : List ℕ) → outputOf shown text limit most ≡ refusalText m j line → (number ≡ m) × (k ≡ j)
+
+-- What holds of what `bench` prints, under any protocol.
 pub record OutputPromises (P : Protocol) (limit most : ℕ) : Type 1 where
   -- whatever report is read in what is printed for an accepted text, it says the same as that of the run of its schedule
   pub says : (text : List ℕ) (s : Schedule) → textAnswer text limit most ≡ accepted s
-      → (m u : ℕ) (b : Report) → outputOf P text limit most ≡ reportText m u b → SaysTheSame (s .n) (s .t) (report P s) m u b
-  -- what is printed for a refused text is no report, and whatever number and line's number are read in it are those of the refusal
+      → (m u : ℕ) (b : Report) → outputOf (reportShown P) text limit most ≡ reportText m u b → SaysTheSame (s .n) (s .t) (report P s) m u b
+  -- what is printed for a refused text is no report, and says the refusal
   pub told-apart : (text : List ℕ) (number k : ℕ) → textAnswer text limit most ≡ refused number k
-      → (m u : ℕ) (b : Report) → outputOf P text limit most ≡ reportText m u b → ⊥
-  pub refusal-says : (text : List ℕ) (number k : ℕ) → textAnswer text limit most ≡ refused number k
-      → (m j : ℕ) (line : List ℕ) → outputOf P text limit most ≡ refusalText m j line → (number ≡ m) × (k ≡ j)
+      → (m u : ℕ) (b : Report) → outputOf (reportShown P) text limit most ≡ reportText m u b → ⊥
+  pub refusals : RefusalsSay (reportShown P) limit most
 
--- Under FCWFA: what is promised of what is printed for an accepted text.
+-- And of what `outcome` prints.
+pub record OutcomeOutputPromises (P : Protocol) (limit most : ℕ) : Type 1 where
+  -- whatever outcome is read in what is printed for an accepted text, it is that of its schedule
+  pub says : (text : List ℕ) (s : Schedule) → textAnswer text limit most ≡ accepted s
+      → (v r : ℕ) → outputOf (outcomeShown P) text limit most ≡ outcomeText v r → (outcomeDecision P s ≡ v) × (outcomeRound P s ≡ r)
+  -- what is printed for a refused text is no outcome, and says the refusal
+  pub told-apart : (text : List ℕ) (number k : ℕ) → textAnswer text limit most ≡ refused number k
+      → (v r : ℕ) → outputOf (outcomeShown P) text limit most ≡ outcomeText v r → ⊥
+  pub refusals : RefusalsSay (outcomeShown P) limit most
+
+-- Under FCWFA: what is promised of what either program prints for an accepted text.
 pub record PrintedKeepsPromises (limit most : ℕ) : Type 0 where
-  pub printed : (text : List ℕ) (s : Schedule) → textAnswer text limit most ≡ accepted s → PrintsPromises s (outputOf fcwfa text limit most)
+  pub report-printed : (text : List ℕ) (s : Schedule) → textAnswer text limit most ≡ accepted s → PrintsPromises s (outputOf (reportShown fcwfa) text limit most)
+  pub outcome-printed : (text : List ℕ) (s : Schedule) → textAnswer text limit most ≡ accepted s → PrintsOutcome s (outputOf (outcomeShown fcwfa) text limit most)
 
 -- The length of any schedule's text, accepted or not. Proved in proofs/Theorem.antt: `text-lengths : TextLengths`.
 pub record TextLengths : Type 0 where

@@ -1,4 +1,4 @@
--- The report as bytes: what the program prints for a text, accepted or refused.
+-- What the programs `bench` and `outcome` print for a text, accepted or refused, as bytes.
 use Prim.Native.Nat.{ℕ, _+_}
 use Prim.Native.Char.{code}
 use mathlib.Core.List.{List, [], _∷_, _++_}
@@ -13,6 +13,7 @@ use Rattle.fields.specs.Fields.{space}
 use Rattle.schedule.specs.Schedule.{Schedule}
 use Rattle.run.specs.Protocol.{Protocol}
 use Rattle.run.specs.Report.{Report, report}
+use Rattle.run.specs.Outcome.{outcomeRound, outcomeDecision}
 use Rattle.text.specs.Written.{eachLine}
 use Rattle.text.specs.Reading.{textAnswer}
 
@@ -42,9 +43,13 @@ countsLine n t given =
     ++ (field (given .last) space
     ++ field (given .messages) lf))))
 
+-- a decision and its round, at the end of a line
+abbrev pub decidedFields : ℕ → ℕ → List ℕ
+decidedFields decision round = (decisionLetter decision ∷ space ∷ []) ++ field round lf
+
 -- the line of the process at place i, whose number is i + 1
 unfoldable pub decisionLine : ℕ → ℕ → ℕ → List ℕ
-decisionLine i decision round = field (i + 1) space ++ ((decisionLetter decision ∷ space ∷ []) ++ field round lf)
+decisionLine i decision round = field (i + 1) space ++ decidedFields decision round
 
 -- the lines of n processes, from their decisions and rounds
 unfoldable pub decisionLines : ℕ → List ℕ → List ℕ → List ℕ
@@ -58,14 +63,31 @@ reportText n t given =
     ++ (decisionsHeading
     ++ decisionLines n (given .decisions) (given .rounds)))
 
+-- `decision round`, with its LF
+abbrev pub outcomeHeading : List ℕ
+outcomeHeading = quoted "decision round\n"
+
+-- what is printed of an outcome: a line of names and one of values
+unfoldable pub outcomeText : ℕ → ℕ → List ℕ
+outcomeText decision round = outcomeHeading ++ decidedFields decision round
+
 -- "A refused text prints three lines: `refused line`; the number and the line's number split by one space; that line itself (empty for line 0)."
 unfoldable pub refusalText : ℕ → ℕ → List ℕ → List ℕ
 refusalText number k line = refusedHeading ++ (field number space ++ (field k lf ++ (line ++ (lf ∷ []))))
 
-module _ (P : Protocol) (text : List ℕ) where
-  -- what is printed for a text whose reading has this answer, under any protocol
+-- what `bench` prints for an accepted schedule that is run under a protocol, and what `outcome` prints
+module _ (P : Protocol) (s : Schedule) where
+  abbrev pub reportShown : List ℕ
+  reportShown = reportText (s .n) (s .t) (report P s)
+
+  abbrev pub outcomeShown : List ℕ
+  outcomeShown = outcomeText (outcomeDecision P s) (outcomeRound P s)
+
+-- Of a program that prints `shown s` for an accepted schedule s.
+module _ (shown : Schedule → List ℕ) (text : List ℕ) where
+  -- what is printed for a text whose reading has this answer
   abbrev pub printed : Answer Schedule ℕ → List ℕ
-  printed (accepted s) = reportText (s .n) (s .t) (report P s)
+  printed (accepted s) = shown s
   printed (refused number k) = refusalText number k (lineOf k text)
 
   -- the whole output of a text, whatever its bytes and its length

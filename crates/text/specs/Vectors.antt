@@ -1,5 +1,6 @@
 -- Texts with their whole output under FCWFA, written from documents 01 and 02 by hand, a schedule with the longest text, and the statements that
--- cover them. Proved in proofs/Vectors.antt, each by computing what the definitions give: `text-vectors : TextVectors`, `length-vectors : LengthVectors`.
+-- cover them. Proved in proofs/Vectors.antt, each by computing what the definitions give: `text-vectors : TextVectors`, `length-vectors : LengthVectors`,
+-- `outcome-text-vectors : OutcomeTextVectors`.
 use Prim.Native.Nat.{ℕ}
 use Prim.Native.String.{String}
 use mathlib.Core.Path.{_≡_}
@@ -14,7 +15,7 @@ use Rattle.schedule.specs.Questions.{question}
 use Rattle.run.specs.Protocol.{fcwfa}
 use Rattle.text.specs.Written.{textOf, longestWritten}
 use Rattle.text.specs.Reading.{longest}
-use Rattle.text.specs.Output.{outputOf}
+use Rattle.text.specs.Output.{reportShown, outcomeShown, outputOf}
 
 -- a text, and what is printed for it
 pub record Printed : Type 0 where
@@ -76,7 +77,18 @@ vectors =
 
 -- each of these texts prints its output
 abbrev pub TextVectors : Type 0
-TextVectors = map (λ v. outputOf fcwfa (quoted (v .text)) largest longest) vectors ≡ map (λ v. quoted (v .output)) vectors
+TextVectors = map (λ v. outputOf (reportShown fcwfa) (quoted (v .text)) largest longest) vectors ≡ map (λ v. quoted (v .output)) vectors
+
+-- a line of names `decision round` and one of values, of cases D and E; and the same three lines of a refusal
+abbrev pub outcomeVectors : List Printed
+outcomeVectors =
+    prints "n t\n4 3\nid vote crash reach\n1 1 1 0100\n2 1 0 0000\n3 1 0 0000\n4 1 0 0000\n" "decision round\n0 3\n" ∷
+    prints "n t\n4 3\nid vote crash reach\n1 1 1 0110\n2 1 3 0000\n3 1 0 0000\n4 1 2 0100\n" "decision round\n1 4\n" ∷
+    prints "n t\n3 3\n" "refused line\n1 2\n3 3\n" ∷
+    []
+
+abbrev pub OutcomeTextVectors : Type 0
+OutcomeTextVectors = map (λ v. outputOf (outcomeShown fcwfa) (quoted (v .text)) largest longest) outcomeVectors ≡ map (λ v. quoted (v .output)) outcomeVectors
 
 -- A schedule with the longest text: 64 processes, of which all but the last crash, in round t + 1 = 64.
 abbrev pub longestSchedule : Schedule
@@ -84,9 +96,9 @@ longestSchedule = scheduleOf 64 63 (replicate 64 1) (replicate 63 64 ++ (0 ∷ [
 
 pub record LengthVectors : Type 0 where
   -- "At most 2,048 bytes? 8, line 0.", and "a text may have 8,192 bytes": any text of 8,193 bytes
-  pub too-long : (text : List ℕ) → length text ≡ 8193 → outputOf fcwfa text largest longest ≡ quoted "refused line\n8 0\n\n"
+  pub too-long : (text : List ℕ) → length text ≡ 8193 → outputOf (reportShown fcwfa) text largest longest ≡ quoted "refused line\n8 0\n\n"
   -- any text of 8,192 bytes gets past that question: here to line 1, which is empty
-  pub long : (rest : List ℕ) → length rest ≡ 8191 → outputOf fcwfa (lf ∷ rest) largest longest ≡ quoted "refused line\n9 1\n\n"
+  pub long : (rest : List ℕ) → length rest ≡ 8191 → outputOf (reportShown fcwfa) (lf ∷ rest) largest longest ≡ quoted "refused line\n9 1\n\n"
   -- the bound of `AllReadBack` (specs/Facts.antt) is met: a schedule is accepted whose text has 4,692 bytes
   pub longest-accepted : question longestSchedule largest true ≡ 0
   pub longest-text : length (textOf longestSchedule) ≡ longestWritten

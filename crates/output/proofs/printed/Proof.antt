@@ -9,13 +9,12 @@ use Rattle.sets.specs.Largest.{largest}
 use Rattle.schedule.specs.Schedule.{scheduleOf}
 use Rattle.schedule.specs.Questions.{tablesOf}
 use Rattle.schedule.proofs.Accepted.{of-size}
-use Rattle.run.specs.Protocol.{fcwfa}
 use Rattle.text.specs.Reading.{longest, scheduleIn, textAnswer}
 use Rattle.text.specs.Output.{outputOf}
 use Rattle.reader.specs.Answers.{readingIs, readAnswer}
 use Rattle.reader.proofs.Texts.{schedule-read, text-refused}
-use Rattle.output.specs.Answers.{outputIs}
-use Rattle.output.proofs.Texts.{n-small, read-question, report-printed, line-shown, refusal-printed, counts, keeps-promises}
+use Rattle.output.specs.Answers.{outputIs, shownOf}
+use Rattle.output.proofs.Texts.{n-small, read-question, accepted-printed, line-shown, refusal-printed, counts, keeps-promises}
 use Rattle.output.proofs.printed.Statement.{statement}
 use Rattle.output.proofs.printed.Tie as tie
 
@@ -79,15 +78,17 @@ returns : tie.Need-returns
 returns c =
     let d = c .before .before in
     let text = d .before .before .before .before .before .before .before .before .before .before .before .before .before .args .text .now in
-    let e = c .of-tables .ensures .0 ∙ ap outputIs (report-printed text _ _ _ (accepts d) fcwfa _ (schedule d)) in
-    (e, (counts (outputOf fcwfa text largest longest) e (c .of-tables .ensures .1), keeps-promises text _ e (c .of-tables .ensures .1)))
+    let wanted = c .before .before .before .before .before .before .before .before .before .before .before .before .before .before .before .args .wanted in
+    let e = c .of-tables .ensures .0 ∙ ap outputIs (accepted-printed text _ _ _ (accepts d) (shownOf wanted) _ (schedule d)) in
+    (e, (counts (outputOf (shownOf wanted) text largest longest) e (c .of-tables .ensures .1), keeps-promises wanted text _ e))
 
 returns-2 : tie.Need-returns-2
 returns-2 c =
     let d = c .before .before in
     let text = d .before .before .before .before .before .before .before .before .before .before .before .before .before .args .text .now in
-    let e = c .refused .ensures .0 ∙ ap outputIs (refusal-printed text (refuses d) fcwfa) in
-    (e, (counts (outputOf fcwfa text largest longest) e (c .refused .ensures .1), keeps-promises text _ e (c .refused .ensures .1)))
+    let wanted = c .before .before .before .before .before .before .before .before .before .before .before .before .before .before .before .args .wanted in
+    let e = c .refused .ensures .0 ∙ ap outputIs (refusal-printed text (refuses d) (shownOf wanted)) in
+    (e, (counts (outputOf (shownOf wanted) text largest longest) e (c .refused .ensures .1), keeps-promises wanted text _ e))
 
 pub printed-spec : {M : Type 1} → statement M
 printed-spec =

@@ -1,76 +1,71 @@
--- `of_tables` meets its contract: the parts that it lends are n long. Assumes nothing.
+-- `of_tables` meets its contract: the parts that it lends are n long, and each branch writes what is wanted. Assumes nothing.
 use mathlib.Core.Path.{sym, ap, _∙_}
 use borrow.Author.Needs.{needs}
 use lib.ListN.{take}
 use lib.Seq.{length-take-le}
-use Rattle.sets.specs.Largest.{largest}
 use Rattle.schedule.specs.Schedule.{scheduleOf}
-use Rattle.schedule.specs.Questions.{question}
-use Rattle.schedule.proofs.Accepted.{answers-long}
+use Rattle.output.specs.declared.Wanted.{Wanted}
+use Rattle.output.specs.Answers.{outputIs, shownOf}
 use Rattle.output.proofs.whole.of_tables.Statement.{statement}
 use Rattle.output.proofs.whole.of_tables.Tie as tie
 
-zero-bytes-requires : tie.Need-zero-bytes-requires
-zero-bytes-requires c κs = search needs
+enum-told : tie.Need-enum-told
+enum-told c = search needs
 
-zero-bytes-requires-2 : tie.Need-zero-bytes-requires-2
-zero-bytes-requires-2 c κs = search needs
+report-of-tables-requires : tie.Need-report-of-tables-requires
+report-of-tables-requires c κs = search needs
+
+enum-told-2 : tie.Need-enum-told-2
+enum-told-2 c = search needs
 
 array-share-prefix-votes : tie.Need-array-share-prefix-votes
 array-share-prefix-votes c = search needs
 
-slice-aggregate-completed : tie.Need-slice-aggregate-completed
-slice-aggregate-completed c = let a = c .before .before .before .args in sym (length-take-le (a .n) (a .t3) (search needs))
+slice-aggregate-concluded : tie.Need-slice-aggregate-concluded
+slice-aggregate-concluded c = let a = c .before .before .before .args in sym (length-take-le (a .n) (a .t4) (search needs))
 
 array-share-prefix-crashes : tie.Need-array-share-prefix-crashes
 array-share-prefix-crashes c = search needs
 
-slice-aggregate-completed-2 : tie.Need-slice-aggregate-completed-2
-slice-aggregate-completed-2 c = let a = c .before .before .before .before .args in sym (length-take-le (a .n) (a .t4) (search needs))
+slice-aggregate-concluded-2 : tie.Need-slice-aggregate-concluded-2
+slice-aggregate-concluded-2 c = let a = c .before .before .before .before .args in sym (length-take-le (a .n) (a .t5) (search needs))
 
 array-share-prefix-reaches : tie.Need-array-share-prefix-reaches
 array-share-prefix-reaches c = search needs
 
-slice-aggregate-completed-3 : tie.Need-slice-aggregate-completed-3
-slice-aggregate-completed-3 c = let a = c .before .before .before .before .before .args in sym (length-take-le (a .n) (a .t5) (search needs))
+slice-aggregate-concluded-3 : tie.Need-slice-aggregate-concluded-3
+slice-aggregate-concluded-3 c = let a = c .before .before .before .before .before .args in sym (length-take-le (a .n) (a .t6) (search needs))
 
-array-borrow-prefix-decisions : tie.Need-array-borrow-prefix-decisions
-array-borrow-prefix-decisions c = search needs
-
-slice-aggregate-completed-4 : tie.Need-slice-aggregate-completed-4
-slice-aggregate-completed-4 c = sym (length-take-le (c .before .before .before .before .before .before .args .n) (c .before .before .before .before .before .zero-bytes .result) (search needs))
-
-array-borrow-prefix-decided : tie.Need-array-borrow-prefix-decided
-array-borrow-prefix-decided c = search needs
-
-slice-aggregate-completed-5 : tie.Need-slice-aggregate-completed-5
-slice-aggregate-completed-5 c = sym (length-take-le (c .before .before .before .before .before .before .before .args .n) (c .before .before .before .before .before .zero-bytes2 .result) (search needs))
-
-completed-requires : tie.Need-completed-requires
-completed-requires c κs =
-    let a = c .before .before .before .before .before .before .before .args in
-    let s = scheduleOf (a .n) (a .t) (take (a .n) (a .t3)) (take (a .n) (a .t4)) (take (a .n) (a .t5)) in
-    let long = answers-long (a .n) _ _ (length-take-le (a .n) (c .before .before .before .before .before .before .zero-bytes .result) (search needs)) (length-take-le (a .n) (c .before .before .before .before .before .zero-bytes2 .result) (search needs)) in
-    ap (question s largest) long ∙ c .before .before .before .before .before .before .before .pre .1
+concluded-requires : tie.Need-concluded-requires
+concluded-requires c κs = search needs
 
 returns : tie.Need-returns
-returns c = search needs
+returns c =
+    let a = c .before .before .before .args in
+    let s = scheduleOf (a .n) (a .t) (take (a .n) (a .t4)) (take (a .n) (a .t5)) (take (a .n) (a .t6)) in
+    let report = c .report-of-tables .ensures in
+    (report .0 ∙ ap (λ (w : Wanted). outputIs (shownOf w s)) (sym (c .before .enum-told .given .1)), report .1)
+
+returns-2 : tie.Need-returns-2
+returns-2 c =
+    let a = c .before .before .before .before .before .before .args in
+    let s = scheduleOf (a .n) (a .t) (take (a .n) (a .t4)) (take (a .n) (a .t5)) (take (a .n) (a .t6)) in
+    let outcome = c .concluded .ensures in
+    (outcome .0 ∙ ap (λ (w : Wanted). outputIs (shownOf w s)) (sym (c .before .before .before .before .enum-told2 .given .1)), outcome .1)
 
 pub of-tables-spec : {M : Type 1} → statement M
 of-tables-spec =
     tie.close
     (tie.spec
-    zero-bytes-requires
-    zero-bytes-requires-2
+    enum-told
+    report-of-tables-requires
+    enum-told-2
     array-share-prefix-votes
-    slice-aggregate-completed
+    slice-aggregate-concluded
     array-share-prefix-crashes
-    slice-aggregate-completed-2
+    slice-aggregate-concluded-2
     array-share-prefix-reaches
-    slice-aggregate-completed-3
-    array-borrow-prefix-decisions
-    slice-aggregate-completed-4
-    array-borrow-prefix-decided
-    slice-aggregate-completed-5
-    completed-requires
-    returns)
+    slice-aggregate-concluded-3
+    concluded-requires
+    returns
+    returns-2)
