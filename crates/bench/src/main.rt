@@ -10,11 +10,12 @@ use forms::LONGEST;
 use libc::STDERR_FILENO;
 use libc::STDIN_FILENO;
 use libc::STDOUT_FILENO;
+use output::Wanted;
 
 fn main() {
     let mut input = [0u8; LONGEST + 1];
     let count = io::read_full(STDIN_FILENO, &mut input);
-    let answer = output::printed(&input[..count]);
+    let answer = output::printed(&input[..count], Wanted::Report);
     let bytes = answer.bytes;
     let length = answer.length;
     let is_written = io::write_all(STDOUT_FILENO, &bytes[..length]);

@@ -36,7 +36,7 @@ module _ (limit : ℕ) (s : Schedule) (decisions rounds : List ℕ) (passed : si
   table-given given lent = place-given _ given lent passed
 
 -- an accepted schedule has an outcome
-pub outcome-given : (P : Protocol) (limit : ℕ) (s : Schedule) → question s limit true ≡ 0 → outcomeAnswer P limit s ≡ accepted (outcomeOf P limit s)
+pub outcome-given : (P : Protocol) (limit : ℕ) (s : Schedule) → question s limit true ≡ 0 → outcomeAnswer P limit s ≡ accepted (outcomeOf P s)
 unfolding outcomeAnswer
 outcome-given P limit s passed = answer-accepted _ _ _ passed
 
@@ -79,6 +79,6 @@ print-given given n t counts decisions rounds long same ed er =
     ∙ ap₂ (λ (d r : List ℕ). reportText n t (givenBy (countsOf given) d r)) ed er
 
 -- printing an outcome that is given prints that of the schedule
-pub print-outcome : (P : Protocol) (limit : ℕ) (s : Schedule) (outcome : Outcome) → _≡_ {A = Answer Outcome (Unit {0})} (accepted outcome) (accepted (outcomeOf P limit s))
+pub print-outcome : (P : Protocol) (s : Schedule) (outcome : Outcome) → _≡_ {A = Answer Outcome (Unit {0})} (accepted outcome) (accepted (outcomeOf P s))
     → outcomeText (outcome .decision) (outcome .round) ≡ outcomeShown P s
-print-outcome P limit s outcome e = ap (λ (o : Outcome). outcomeText (o .decision) (o .round)) (ap (valueOr outcome) e)
+print-outcome P s outcome e = ap (λ (o : Outcome). outcomeText (o .decision) (o .round)) (ap (valueOr outcome) e)

@@ -47,7 +47,7 @@ module _ (s : Schedule) {first : FirstDecision} (left : first ≡ firstDecisionO
     decision-is e = e ∙ ap (λ (m : Member). cond (eqb (m .decided) 0) 2 (m .estimate)) member-is
 
     outcome-is : {d : ℕ} → d ≡ cond (eqb (first .member .decided) 0) 2 (first .member .estimate)
-        → _≡_ {A = Outcome} (record { decision = d; round = first .round }) (outcomeOf fcwfa largest s)
+        → _≡_ {A = Outcome} (record { decision = d; round = first .round }) (outcomeOf fcwfa s)
     outcome-is e i = record { decision = decision-is e i; round = round-is i }
 
     pub decided-concludes : {d : ℕ} → d ≡ cond (eqb (first .member .decided) 0) 2 (first .member .estimate)

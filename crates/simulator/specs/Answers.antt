@@ -73,14 +73,13 @@ abbrev pub concludedIs : Concluded → Answer Outcome (Unit {0})
 concludedIs (Concluded.Decided outcome) = accepted outcome
 concludedIs (Concluded.Refused number) = refused number tt
 
--- A call with a schedule alone: its questions are those of a schedule without answer tables.
-module _ (P : Protocol) (limit : ℕ) (s : Schedule) where
-  -- "answers that value and round"
-  abbrev pub outcomeOf : Outcome
-  outcomeOf = record { decision = outcomeDecision P s; round = outcomeRound P s }
+-- "answers that value and round"
+abbrev pub outcomeOf : Protocol → Schedule → Outcome
+outcomeOf P s = record { decision = outcomeDecision P s; round = outcomeRound P s }
 
-  unfoldable pub outcomeAnswer : Answer Outcome (Unit {0})
-  outcomeAnswer = answer (question s limit true) outcomeOf tt
+-- A call with a schedule alone: its questions are those of a schedule without answer tables.
+unfoldable pub outcomeAnswer : Protocol → ℕ → Schedule → Answer Outcome (Unit {0})
+outcomeAnswer P limit s = answer (question s limit true) (outcomeOf P s) tt
 
 -- What is promised of an outcome, of the answer: wherever it is one.
 pub record AnswerIsOutcome (s : Schedule) (r : Concluded) : Type 0 where

@@ -37,7 +37,7 @@ given c =
     scheduleOf (a .n) (a .t) (a .votes .now) (a .crashes .now) (a .reaches .now)
 
 -- it is accepted, so the simulator gives its outcome
-decided : (c : tie.After-conclude) → concludedIs (c .conclude .result) ≡ accepted (outcomeOf fcwfa largest (given c))
+decided : (c : tie.After-conclude) → concludedIs (c .conclude .result) ≡ accepted (outcomeOf fcwfa (given c))
 decided c = c .conclude .ensures .answered ∙ outcome-given fcwfa largest (given c) (c .before .before .before .before .before .pre)
 
 returns : tie.Need-returns
@@ -56,7 +56,7 @@ returns-2 c =
     let same = ap concludedIs (c .before .before .before .before .answer .given .1) in
     let promised = d .conclude .ensures .promises .kept outcome same .commit-or-abort in
     let w = written-output _ _ _ _ (c .before .before .before .before .before .before .before .blank-output .ensures) (writes-same (shown-outcome outcome (omega arith)) (c .before .put-outcome .ensures)) (outcome-short _ _ (search needs)) in
-    (w .0 ∙ ap outputIs (print-outcome fcwfa largest (given d) outcome (sym same ∙ decided d)), w .1)
+    (w .0 ∙ ap outputIs (print-outcome fcwfa (given d) outcome (sym same ∙ decided d)), w .1)
 
 pub concluded-spec : {M : Type 1} → statement M
 concluded-spec =
