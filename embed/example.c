@@ -1,10 +1,11 @@
 /*
- * Four uses of the library. First a cluster of four members in one process:
+ * Five uses of the library. First a cluster of four members in one process:
  * they commit; with one vote for abort they abort; and they abort where one of
  * them crashes in round 1. Each member's silent set is printed with its
  * decision. Then the simulator on the same crash, and on a schedule that is
- * refused. Then the crashes of a table, counted up to the one that is too many.
- * Last a schedule in tables, written as its text, read back, and refused.
+ * refused. Then the outcome alone, without the whole run. Then the crashes of a
+ * table, counted up to the one that is too many. Last a schedule in tables,
+ * written as its text, read back, and refused.
  * Compiles as C11 and as C++.
  */
 #include <assert.h>
@@ -141,6 +142,22 @@ static void simulate(uint8_t crash, fcwfa_set reach)
     }
 }
 
+/* Plays such a schedule only until some process decides. */
+static void print_outcome(uint8_t crash, fcwfa_set reach)
+{
+    const uint8_t votes[N] = {1, 1, 1, 1};
+    const uint8_t crashes[N] = {crash, 0, 0, 0};
+    const fcwfa_set reaches[N] = {reach, 0, 0, 0};
+    uint8_t outcome[FCWFA_OUTCOME];
+
+    uint8_t number = fcwfa_outcome(N, T, votes, N, crashes, N, reaches, N, outcome);
+    if (number != FCWFA_OK)
+        printf("refused by question %d\n", number);
+    else
+        printf("%d is decided, first in round %d\n", outcome[FCWFA_OUTCOME_DECISION],
+               outcome[FCWFA_OUTCOME_ROUND]);
+}
+
 /* Counts the crashes of the first `length` of six processes. */
 static void count(size_t t, size_t length)
 {
@@ -235,6 +252,10 @@ int main(void)
     simulate(1, only(2));
     puts("process 1 crashes in round 1 and reaches itself");
     simulate(1, only(1));
+    puts("the outcome alone: process 1 crashes in round 1, in round 2, and in round 5, and reaches process 2 only");
+    print_outcome(1, only(2));
+    print_outcome(2, only(2));
+    print_outcome(5, only(2));
     puts("a member with the number 5 of 4");
     printf("refused by question %d\n", fcwfa_open(N, T, 5, 1, state));
     puts("processes 1, 3, 4 and 5 of six crash: counted with t = 1, 3, 4 and the largest, and in an empty table");

@@ -35,9 +35,9 @@ extern "C" {
  * the header of the library that is linked: it says how much a call writes.
  */
 #define FCWFA_VERSION_MAJOR 0
-#define FCWFA_VERSION_MINOR 7
+#define FCWFA_VERSION_MINOR 8
 #define FCWFA_VERSION_PATCH 0
-#define FCWFA_VERSION "0.7.0"
+#define FCWFA_VERSION "0.8.0"
 
 /* The largest number of processes. */
 #define FCWFA_LARGEST_N 64
@@ -193,6 +193,28 @@ uint8_t fcwfa_simulate(size_t n, size_t t,
                        uint8_t *decisions, size_t decisions_length,
                        uint8_t *rounds, size_t rounds_length,
                        size_t counts[FCWFA_COUNTS]);
+
+/* What fcwfa_outcome writes to `outcome`, at these places. */
+#define FCWFA_OUTCOME 2
+/* What is decided: 0 (abort) or 1 (commit). */
+#define FCWFA_OUTCOME_DECISION 0
+/* The first round in which some process decides, from 2 to t + 1. */
+#define FCWFA_OUTCOME_ROUND 1
+
+/*
+ * Plays rounds until one in which some process decides, and writes what it
+ * decides and that round. The schedule is in tables as fcwfa_simulate takes
+ * them: all three are n long. Every process that decides in the whole run, also
+ * one that crashes afterwards, decides this value, and the round is the smallest
+ * decided round there. An accepted schedule always has an outcome.
+ * Refusals, in this order: 1, 2, 3, then for each process in turn 4, 5, 6, and
+ * last 7. `outcome` is then as it was.
+ */
+uint8_t fcwfa_outcome(size_t n, size_t t,
+                      const uint8_t *votes, size_t votes_length,
+                      const uint8_t *crashes, size_t crashes_length,
+                      const fcwfa_set *reaches, size_t reaches_length,
+                      uint8_t outcome[FCWFA_OUTCOME]);
 
 /* What fcwfa_count_crashes writes to `counted`, at these places. */
 #define FCWFA_COUNTED 2

@@ -1,5 +1,5 @@
 //! The commit bench and its members, written a second time from document 01, and from document 02 as far as its
-//! requests have landed: so far K1, K2, K3, K4, K7, K8 and K11. Where document 02 changes document 01, document 02
+//! requests have landed: so far K1, K2, K3, K4, K6, K7, K8 and K11. Where document 02 changes document 01, document 02
 //! stands.
 //!
 //! The modules follow document 01 in its order. Processes and rounds are numbered from 1, as there; the entry of
@@ -13,6 +13,7 @@ pub mod demand3;
 pub mod files;
 pub mod first;
 pub mod member;
+pub mod outcome;
 pub mod questions;
 pub mod report;
 pub mod run;

@@ -20,6 +20,12 @@ pub type State = [u8; 14];
 /// The decision of a process that made none; its round is 0.
 pub const NO_DECISION: u8 = 2;
 
+/// The place of what is decided, 0 (abort) or 1 (commit), among the two bytes of [`outcome`].
+pub const OUTCOME_DECISION: usize = 0;
+
+/// The place of the round among them, the first one in which some process decides.
+pub const OUTCOME_ROUND: usize = 1;
+
 /// The place of n, the number of processes, among the three numbers of [`read_schedule`]. It is written if the text is accepted.
 pub const READ_N: usize = 0;
 
@@ -50,6 +56,17 @@ mod foreign {
             rounds: *mut u8,
             rounds_length: usize,
             counts: *mut usize,
+        ) -> u8;
+        pub fn fcwfa_outcome(
+            n: usize,
+            t: usize,
+            votes: *const u8,
+            votes_length: usize,
+            crashes: *const u8,
+            crashes_length: usize,
+            reaches: *const Set,
+            reaches_length: usize,
+            outcome: *mut u8,
         ) -> u8;
         pub fn fcwfa_count_crashes(
             t: usize,
@@ -152,6 +169,36 @@ pub fn simulate(
         )
     };
     accepted(number, Counts::of_table(counts))
+}
+
+/// Plays rounds until one in which some process decides: see [`outcome`](crate::outcome). `outcome` gets what is decided, 0 or 1, at
+/// [`OUTCOME_DECISION`] and the round at [`OUTCOME_ROUND`].
+///
+/// Refusals: 1, 2, 3 (all three tables are n long), 4, 5, 6 for each process in turn, 7. `outcome` is then as it was.
+pub fn outcome(
+    n: usize,
+    t: usize,
+    votes: &[u8],
+    crashes: &[u8],
+    reaches: &[Set],
+    outcome: &mut [u8; 2],
+) -> Result<(), u8> {
+    // SAFETY: each pointer is good for the length given with it and the last for two bytes; what is written is lent by `&mut`, so it
+    // overlaps with nothing else.
+    let number = unsafe {
+        foreign::fcwfa_outcome(
+            n,
+            t,
+            votes.as_ptr(),
+            votes.len(),
+            crashes.as_ptr(),
+            crashes.len(),
+            reaches.as_ptr(),
+            reaches.len(),
+            outcome.as_mut_ptr(),
+        )
+    };
+    accepted(number, ())
 }
 
 /// Counts the crashes in a table of crash rounds, up to the one that is too many for t: see [`count_crashes`](crate::count_crashes).

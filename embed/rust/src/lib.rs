@@ -6,8 +6,8 @@
 //! Every type says which numbers it stands for; they are those of `embed/fcwfa.h`. The module [`bytes`] has the same calls on the bare
 //! numbers.
 //!
-//! [`Member`] is one process, [`simulate`] runs a whole cluster, and a [`Schedule`] is what a cluster is run by: it parses from the text
-//! that the program `bench` reads, and displays as it.
+//! [`Member`] is one process, [`simulate`] runs a whole cluster, [`outcome`] says commit or abort without the whole run, and a [`Schedule`]
+//! is what a cluster is run by: it parses from the text that the program `bench` reads, and displays as it.
 //!
 //! Four members vote to commit, every message arrives, and all of them commit in round 2:
 //!
@@ -76,7 +76,7 @@ pub use member::Member;
 pub use processes::{ProcessNumbers, Processes};
 pub use refusal::{Refusal, TextRefusal};
 pub use schedule::Schedule;
-pub use simulator::{simulate, Counts, Report};
+pub use simulator::{outcome, simulate, Counts, Outcome, Report};
 pub use values::{Code, Decided, Decision, Vote};
 
 /// The largest number of processes.

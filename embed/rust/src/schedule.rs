@@ -4,7 +4,8 @@ use std::fmt;
 use std::str::{from_utf8, FromStr};
 
 use crate::bytes::{self, READ_LINE, READ_N, READ_T};
-use crate::{simulate, Refusal, Report, Set, TextRefusal, Vote, LARGEST, LONGEST_WRITTEN};
+use crate::{outcome, simulate, Outcome, Refusal, Report, Set, TextRefusal, Vote};
+use crate::{LARGEST, LONGEST_WRITTEN};
 
 /// A schedule: who votes what, who crashes when, and whom the last message reaches. It was accepted when it was made, so it can always be
 /// run and always has a text.
@@ -123,6 +124,24 @@ impl Schedule {
     pub fn simulate(&self) -> Report {
         let (n, t) = (self.n(), self.t);
         simulate(n, t, &self.votes, &self.crashes, &self.reaches)
+            .unwrap_or_else(|refusal| unaccepted(refusal.number()))
+    }
+
+    /// Plays rounds until one in which some process decides: what [`outcome`] answers of these tables. Nothing is refused.
+    ///
+    /// ```
+    /// use fcwfa::{Decision, Schedule, TextRefusal};
+    ///
+    /// # fn main() -> Result<(), TextRefusal> {
+    /// let text = "n t\n4 3\nid vote crash reach\n1 1 1 0100\n2 1 0 0000\n3 1 0 0000\n4 1 0 0000\n";
+    /// let outcome = text.parse::<Schedule>()?.outcome();
+    /// assert_eq!((outcome.decision, outcome.round), (Decision::Abort, 3));
+    /// # Ok(())
+    /// # }
+    /// ```
+    pub fn outcome(&self) -> Outcome {
+        let (n, t) = (self.n(), self.t);
+        outcome(n, t, &self.votes, &self.crashes, &self.reaches)
             .unwrap_or_else(|refusal| unaccepted(refusal.number()))
     }
 }

@@ -1,6 +1,6 @@
 //! A whole cluster under a schedule.
 
-use crate::bytes::{self, NO_DECISION};
+use crate::bytes::{self, NO_DECISION, OUTCOME_DECISION, OUTCOME_ROUND};
 use crate::{Decided, Decision, Refusal, Set, Vote, LARGEST};
 
 /// The counts of a run.
@@ -61,6 +61,50 @@ pub fn simulate(
     Ok(Report {
         counts,
         decisions: decided.map(|(&value, &round)| made(value, round)).collect(),
+    })
+}
+
+/// What is decided in a run, and the first round in which some process decides. This is a decision with the round in which it was made, as a
+/// process has it, so it is no type of its own.
+pub type Outcome = Decided;
+
+/// Plays rounds until one in which some process decides, and answers what it decides and that round. The tables are those of [`simulate`].
+///
+/// Every process that decides in the whole run, also one that crashes afterwards, decides this value, and the round is the smallest decided
+/// round there, from 2 to t + 1. An accepted schedule always has an outcome. When all have decided it does not say: that is
+/// [`Counts::last`].
+///
+/// Refusals, as [`simulate`] has them: [`Refusal::N`], [`Refusal::T`], [`Refusal::Length`], then for each process in turn
+/// [`Refusal::Crash`] and [`Refusal::Reach`], and last [`Refusal::Crashes`].
+///
+/// ```
+/// use fcwfa::{outcome, simulate, Decided, Decision, Refusal, Vote};
+///
+/// # fn main() -> Result<(), Refusal> {
+/// // Process 5 of five crashes in round 2 and reaches process 4 only. That one decides in round 2, and crashes in round 3 unheard.
+/// let (votes, crashes, reaches) = ([Vote::Commit; 5], [0, 0, 0, 3, 2], [0, 0, 0, 0, 0b01000]);
+/// let outcome = outcome(5, 3, &votes, &crashes, &reaches)?;
+/// assert_eq!(outcome, Decided { decision: Decision::Commit, round: 2 });
+/// assert_eq!(outcome.to_string(), "commit in round 2");
+///
+/// // The others decide the same a round later.
+/// assert_eq!(simulate(5, 3, &votes, &crashes, &reaches)?.counts.last, 3);
+/// # Ok(())
+/// # }
+/// ```
+pub fn outcome(
+    n: usize,
+    t: usize,
+    votes: &[Vote],
+    crashes: &[u8],
+    reaches: &[Set],
+) -> Result<Outcome, Refusal> {
+    let votes = bytes::of_votes(votes);
+    let mut outcome = [NO_DECISION, 0];
+    bytes::outcome(n, t, votes, crashes, reaches, &mut outcome).map_err(Refusal::answered)?;
+    Ok(Decided {
+        decision: Decision::answered(outcome[OUTCOME_DECISION]),
+        round: outcome[OUTCOME_ROUND].into(),
     })
 }
 

@@ -3,7 +3,7 @@ use std::collections::HashSet;
 use std::fs;
 use std::path::Path;
 
-use fcwfa::{simulate, Decided, Refusal, Report, Schedule, Set, TextRefusal, Vote};
+use fcwfa::{outcome, simulate, Decided, Refusal, Report, Schedule, Set, TextRefusal, Vote};
 use fcwfa::{LARGEST, LONGEST_TEXT, LONGEST_WRITTEN};
 
 /// Case D: process 1 of four crashes in round 1 and reaches process 2 alone.
@@ -52,7 +52,19 @@ fn printed(schedule: &Schedule, report: &Report) -> String {
     lines
 }
 
-/// What is accepted displays as the same text and runs as reported; what is refused is refused with the number and the line reported.
+/// The outcome of a report: the decision and the round of a line with the smallest round above 0.
+fn first_decided(report: &str) -> Option<(u8, usize)> {
+    let made = report.lines().skip(3).filter_map(|line| {
+        let mut fields = line.split(' ').skip(1);
+        // `-` is no number
+        let decision = fields.next()?.parse().ok()?;
+        Some((decision, fields.next()?.parse().ok()?))
+    });
+    made.min_by_key(|&(_, round)| round)
+}
+
+/// What is accepted displays as the same text, runs as reported and has the outcome of the report; what is refused is refused with the number
+/// and the line reported.
 #[test]
 fn every_text_is_read_as_reported() {
     let (mut accepted, mut numbers) = (0, HashSet::new());
@@ -63,6 +75,9 @@ fn every_text_is_read_as_reported() {
             Ok(schedule) => {
                 assert_eq!(schedule.to_string().into_bytes(), text, "{name}");
                 assert_eq!(printed(&schedule, &schedule.simulate()), report, "{name}");
+                let Decided { decision, round } = schedule.outcome();
+                let outcome = Some((decision.into(), round));
+                assert_eq!(outcome, first_decided(&report), "{name}");
                 accepted += 1;
             }
             Err(refusal) => {
@@ -85,6 +100,8 @@ fn a_schedule_shows_what_it_is() {
     let (n, t, votes) = (schedule.n(), schedule.t(), schedule.votes());
     let report = simulate(n, t, votes, schedule.crashes(), schedule.reaches());
     assert_eq!(report, Ok(schedule.simulate()));
+    let made = outcome(n, t, votes, schedule.crashes(), schedule.reaches());
+    assert_eq!(made, Ok(schedule.outcome()));
 }
 
 #[test]

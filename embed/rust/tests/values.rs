@@ -119,7 +119,7 @@ fn refusals() -> Vec<Refusal> {
     (0..=255).filter_map(Refusal::from_number).collect()
 }
 
-/// Header and crate are of one version, of one size of clusters, of states and of texts, and have one order of what is read.
+/// Header and crate are of one version, of one size of clusters, of states and of texts, and have one order of what is read and of an outcome.
 #[test]
 fn the_header_is_of_this_version() {
     let header = include_str!("../../fcwfa.h");
@@ -135,6 +135,10 @@ fn the_header_is_of_this_version() {
     let (n, t, line) = (bytes::READ_N, bytes::READ_T, bytes::READ_LINE);
     for (name, place) in [("N", n), ("T", t), ("LINE", line)] {
         assert!(header.contains(&format!("#define FCWFA_READ_{name} {place}\n")));
+    }
+    let (decision, round) = (bytes::OUTCOME_DECISION, bytes::OUTCOME_ROUND);
+    for (name, place) in [("DECISION", decision), ("ROUND", round)] {
+        assert!(header.contains(&format!("#define FCWFA_OUTCOME_{name} {place}\n")));
     }
 }
 

@@ -4,8 +4,8 @@ use std::path::PathBuf;
 
 /// What the program says when its arguments are wrong.
 pub const USAGE: &str = "\
-matching [--bench PATH] [--seed S]... [--valid N] [--damaged N] [--tables N] [--counts N] [--writes N] [--reads N]
-         [--trips N] [--members N] [--runs N] [--skip-small]
+matching [--bench PATH] [--outcome PATH] [--seed S]... [--valid N] [--damaged N] [--tables N] [--outcome-calls N]
+         [--counts N] [--writes N] [--reads N] [--trips N] [--members N] [--runs N] [--skip-small]
 matching --self-test
 matching --help";
 
@@ -16,7 +16,7 @@ const FIRST_SEED: u64 = 1;
 pub fn help() -> String {
     let default = Arguments::default();
     let (valid, damaged) = (default.valid, default.damaged);
-    let (tables, counts) = (default.tables, default.counts);
+    let (tables, outcome_calls, counts) = (default.tables, default.outcome_calls, default.counts);
     let (writes, reads, trips) = (default.writes, default.reads, default.trips);
     let (members, runs) = (default.members, default.runs);
     format!(
@@ -25,20 +25,22 @@ Puts the same input through the proved code and through the reference, and compa
 
 {USAGE}
 
-  --bench PATH   the compiled bench, for the texts; without it they are skipped
-  --seed S       fixes everything random; all of it is done for each seed that is given [{FIRST_SEED}]
-  --valid N      how many texts of accepted schedules [{valid}]
-  --damaged N    how many damaged texts that are refused [{damaged}]
-  --tables N     how many calls on tables [{tables}]
-  --counts N     how many counts of crashes [{counts}]
-  --writes N     how many schedules written into a buffer [{writes}]
-  --reads N      how many texts read into tables [{reads}]
-  --trips N      how many round trips each way, written and read, and read and written [{trips}]
-  --members N    how many calls to a member [{members}]
-  --runs N       how many runs whose members are opened and hear all their rows [{runs}]
-  --skip-small   skip the schedules with n = 4 and t = 3 [all of them are compared]
-  --self-test    show that differences are found, in place of the matching
-  --help, -h     print this
+  --bench PATH        the compiled bench, for the texts; without it none go through it
+  --outcome PATH      the compiled outcome, for the same texts; without it none go through it
+  --seed S            fixes everything random; all of it is done for each seed that is given [{FIRST_SEED}]
+  --valid N           how many texts of accepted schedules [{valid}]
+  --damaged N         how many damaged texts that are refused [{damaged}]
+  --tables N          how many calls on tables [{tables}]
+  --outcome-calls N   how many calls for the outcome [{outcome_calls}]
+  --counts N          how many counts of crashes [{counts}]
+  --writes N          how many schedules written into a buffer [{writes}]
+  --reads N           how many texts read into tables [{reads}]
+  --trips N           how many round trips each way, written and read, and read and written [{trips}]
+  --members N         how many calls to a member [{members}]
+  --runs N            how many runs whose members are opened and hear all their rows [{runs}]
+  --skip-small        skip the schedules with n = 4 and t = 3 [all of them are compared]
+  --self-test         show that differences are found, in place of the matching
+  --help, -h          print this
 
 What stands in brackets holds if the flag is not given. A count of 0 skips its part.
 
@@ -56,8 +58,10 @@ pub struct Arguments {
     pub help: bool,
     /// Show that differences are found, in place of the matching.
     pub self_test: bool,
-    /// The compiled `bench`; without it the texts are skipped.
+    /// The compiled `bench`; without it no texts go through it.
     pub bench: Option<PathBuf>,
+    /// The compiled `outcome`; without it no texts go through it.
+    pub outcome: Option<PathBuf>,
     /// Everything random is done for each seed.
     pub seeds: Vec<u64>,
     /// How many texts of accepted schedules.
@@ -66,6 +70,8 @@ pub struct Arguments {
     pub damaged: u64,
     /// How many calls on tables.
     pub tables: u64,
+    /// How many calls for the outcome.
+    pub outcome_calls: u64,
     /// How many counts of crashes.
     pub counts: u64,
     /// How many schedules written into a buffer.
@@ -88,10 +94,12 @@ impl Default for Arguments {
             help: false,
             self_test: false,
             bench: None,
+            outcome: None,
             seeds: Vec::new(),
             valid: 4_000,
             damaged: 4_000,
             tables: 200_000,
+            outcome_calls: 120_000,
             counts: 1_000_000,
             writes: 60_000,
             reads: 80_000,
@@ -141,10 +149,12 @@ fn set(arguments: &mut Arguments, name: &str, value: &str) -> Result<(), String>
     };
     match name {
         "--bench" => arguments.bench = Some(PathBuf::from(value)),
+        "--outcome" => arguments.outcome = Some(PathBuf::from(value)),
         "--seed" => arguments.seeds.push(number()?),
         "--valid" => arguments.valid = number()?,
         "--damaged" => arguments.damaged = number()?,
         "--tables" => arguments.tables = number()?,
+        "--outcome-calls" => arguments.outcome_calls = number()?,
         "--counts" => arguments.counts = number()?,
         "--writes" => arguments.writes = number()?,
         "--reads" => arguments.reads = number()?,
@@ -176,15 +186,18 @@ mod tests {
     #[test]
     fn values_are_taken() {
         let line = "--bench x --seed 5 --valid 1 --seed 6 --damaged 2 --tables 3 --counts 4 \
-                    --members 5 --runs 6 --writes 7 --reads 8 --trips 9 --skip-small";
+                    --members 5 --runs 6 --writes 7 --reads 8 --trips 9 --outcome y \
+                    --outcome-calls 10 --skip-small";
         let expected = Arguments {
             help: false,
             self_test: false,
             bench: Some(PathBuf::from("x")),
+            outcome: Some(PathBuf::from("y")),
             seeds: vec![5, 6],
             valid: 1,
             damaged: 2,
             tables: 3,
+            outcome_calls: 10,
             counts: 4,
             writes: 7,
             reads: 8,
@@ -225,6 +238,7 @@ mod tests {
             "[1]",
             "[4000]",
             "[200000]",
+            "[120000]",
             "[1000000]",
             "[60000]",
             "[80000]",

@@ -4,7 +4,7 @@
 use reference::crashes::{self, CrashCount};
 use reference::LARGEST;
 
-use crate::outcome::{share, Outcome};
+use crate::findings::{share, Findings};
 use crate::random::Random;
 
 /// The call under test: it takes t and a table of crash rounds, and gives the count. It refuses nothing, so a number is
@@ -34,16 +34,16 @@ pub fn by_reference(t: usize, crashes: &[u8]) -> Result<CrashCount, u8> {
 }
 
 /// Compares so many counts.
-pub fn compare(seed: u64, count: u64, count_crashes: CountCrashes) -> Outcome {
-    share(count, KINDS.len(), |outcome, case| {
+pub fn compare(seed: u64, count: u64, count_crashes: CountCrashes) -> Findings {
+    share(count, KINDS.len(), |findings, case| {
         let (kind, call) = of_case(seed, case);
         let expected = by_reference(call.t, &call.crashes);
-        outcome.count(kind, expected.err());
+        findings.count(kind, expected.err());
         if call.crashes.len() <= LONGEST_TABLE {
-            outcome.lengths.insert(call.crashes.len());
+            findings.lengths.insert(call.crashes.len());
         }
         let found = count_crashes(call.t, &call.crashes);
-        outcome.compare(case, expected == found, || {
+        findings.compare(case, expected == found, || {
             format!("call: {call:?}\nreference: {expected:?}\nunder test: {found:?}\n")
         });
     })

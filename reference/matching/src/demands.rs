@@ -10,35 +10,35 @@ use reference::schedule::Schedule;
 use reference::so_far::{Rule, RULE};
 use reference::{demand3, first, silent};
 
-use crate::outcome::Outcome;
+use crate::findings::Findings;
 
 /// Holds a finished run with its hearings against demand 3 and the three rules.
 pub fn check(
-    outcome: &mut Outcome,
+    findings: &mut Findings,
     case: u64,
     schedule: &Schedule,
     run: &Run,
     hearings: &[Hearing],
 ) {
-    check_by(&RULE, outcome, case, schedule, run, hearings);
+    check_by(&RULE, findings, case, schedule, run, hearings);
 }
 
 /// The same with a given rule of the crashes so far.
 pub fn check_by(
     rule: &Rule,
-    outcome: &mut Outcome,
+    findings: &mut Findings,
     case: u64,
     schedule: &Schedule,
     run: &Run,
     hearings: &[Hearing],
 ) {
     let held = held(rule, schedule, run, hearings);
-    outcome.demand(case, held.is_ok(), || {
+    findings.demand(case, held.is_ok(), || {
         let words = held.clone().expect_err("something is broken");
         format!("{words}\nschedule: {schedule:?}\nrun: {run:?}\n")
     });
-    outcome.equalities += rule.equalities(schedule, run);
-    outcome.settings += silent::settings(schedule, hearings);
+    findings.equalities += rule.equalities(schedule, run);
+    findings.settings += silent::settings(schedule, hearings);
 }
 
 /// What a finished run breaks, if anything, in words.

@@ -7,8 +7,8 @@ use reference::questions::{Refusal, MIN_CRASHES, SIZES};
 use reference::schedule::{bit, everyone};
 use reference::{Set, LARGEST};
 
+use crate::findings::{share, Findings};
 use crate::generate::{sizes, walked};
-use crate::outcome::{share, Outcome};
 use crate::random::Random;
 
 /// A member's state as bytes: n, t, own number, round, estimate and decided round, one each, then the set of silent
@@ -113,20 +113,20 @@ impl Answer {
 }
 
 /// Compares so many calls. The sizes are walked: each comes up once with every kind, and then the next one.
-pub fn compare(seed: u64, count: u64, machine: &dyn Machine) -> Outcome {
+pub fn compare(seed: u64, count: u64, machine: &dyn Machine) -> Findings {
     let sizes = sizes();
-    share(count, KINDS.len(), |outcome, case| {
+    share(count, KINDS.len(), |findings, case| {
         let mut random = Random::of_case(seed, MEMBERS, case);
         let (walk, kind) = (case as usize / KINDS.len(), case as usize % KINDS.len());
         let (_, make) = KINDS[kind];
         let member = in_range(&mut random, walked(&sizes, walk));
         let call = make(&mut random, member);
         let (expected, found) = (call.answer(&ByReference), call.answer(machine));
-        outcome.count(kind, expected.refusal());
+        findings.count(kind, expected.refusal());
         if expected.refusal().is_none() {
-            outcome.sizes.insert(call.size());
+            findings.sizes.insert(call.size());
         }
-        outcome.compare(case, expected == found, || {
+        findings.compare(case, expected == found, || {
             format!("call: {call:?}\nreference: {expected:?}\nunder test: {found:?}\n")
         });
     })

@@ -2,6 +2,7 @@
 
 use reference::demand3::message_limit;
 use reference::member::Member;
+use reference::outcome;
 use reference::report::answer;
 use reference::run::{Run, NONE};
 use reference::schedule::{bit, Schedule};
@@ -10,20 +11,23 @@ use reference::LARGEST;
 
 use crate::crashes::{self, CountCrashes};
 use crate::files::{self, ReadBy, Text, WriteBy, ACCEPTED, BUFFERS, IN_LONGER, QUESTIONS, TEXTS};
+use crate::findings::{share, Findings};
 use crate::limits::{self, Cut, Refuse, UpTo, CUTS, REFUSED};
 use crate::members::{self, Machine};
-use crate::outcome::{share, Outcome};
+use crate::outcomes::{self, Tell};
 use crate::random::Random;
 use crate::reads::{self, Read};
 use crate::silent::{self, HighestFirst, IN_ANY_STATE, IN_RUNS, TAKEN};
 use crate::summary::{spelled, Summary};
 use crate::tables::{self, by_reference, Simulate};
-use crate::texts::{self, Program};
+use crate::texts::{self, Prints, Program};
 use crate::whole::{check_kinds, check_lengths, check_sizes};
 use crate::whole::{check_small_count, check_small_equalities, check_small_settings};
 use crate::writes::{self, Write};
 use crate::wrong::{self, Change, Hear, Take, Wrong, COUNTS, CRASHES, ENDS, FIRSTS, RIGHT, TURNS};
-use crate::wrong::{LOOSE, RULES};
+use crate::wrong::{LOOSE, RULES, STOPPING};
+use crate::wrong_outcomes::{self, AnswerBy, OutcomeBy, Print, TellBy};
+use crate::wrong_outcomes::{ASKED, PRINTED, REFUSALS, TAKES, WRITTEN};
 use crate::{demands, generate, runs, small, trips};
 
 /// The seed and the counts of the self-test. Every size comes up among the finished runs, those of members and the
@@ -35,6 +39,7 @@ const VALID: u64 = SIZES / 2;
 const DAMAGED: u64 = 1_400;
 const STEP: usize = 97;
 const TABLES: u64 = 9_000;
+const OUTCOMES: u64 = 200 * outcomes::KINDS as u64;
 const CRASH_COUNTS: u64 = 2 * (crashes::KINDS.len() * crashes::LENGTHS) as u64;
 const WRITES: u64 = 200 * writes::KINDS as u64;
 const READS: u64 = 100 * reads::KINDS as u64;
@@ -44,35 +49,35 @@ const MEMBERS: u64 = 70_000;
 pub struct Plant {
     pub part: &'static str,
     pub name: &'static str,
-    pub outcome: Outcome,
+    pub findings: Findings,
     /// The sum from which the exit code comes.
     pub summary: Summary,
 }
 
 impl Plant {
     /// A plant in a part that has to meet these refusal numbers.
-    fn new(part: &'static str, name: &'static str, outcome: Outcome, numbers: &[u8]) -> Plant {
+    fn new(part: &'static str, name: &'static str, findings: Findings, numbers: &[u8]) -> Plant {
         let mut summary = Summary::default();
-        summary.add(part, &outcome, numbers);
+        summary.add(part, &findings, numbers);
         Plant {
             part,
             name,
-            outcome,
+            findings,
             summary,
         }
     }
 
     /// Whether the difference was found: it is counted, shown in full, and the exit code would be 1.
     pub fn found(&self) -> bool {
-        let counted = self.outcome.differ + self.outcome.broken != 0;
-        counted && !self.outcome.differences.is_empty() && self.summary.exit_code() == 1
+        let counted = self.findings.differ + self.findings.broken != 0;
+        counted && !self.findings.differences.is_empty() && self.summary.exit_code() == 1
     }
 
     fn print(&self, verdict: &str) {
-        let (part, name, outcome) = (self.part, spelled(self.name), &self.outcome);
-        let what = match outcome.compared {
-            0 => format!("{} of {} runs", outcome.broken, outcome.demands),
-            compared => format!("{} of {compared} answers", outcome.differ),
+        let (part, name, findings) = (self.part, spelled(self.name), &self.findings);
+        let what = match findings.compared {
+            0 => format!("{} of {} runs", findings.broken, findings.demands),
+            compared => format!("{} of {compared} answers", findings.differ),
         };
         println!("{verdict} {part}: {name}: {what} differ");
     }
@@ -106,13 +111,17 @@ pub fn self_test() -> u8 {
 pub fn controls() -> Vec<Plant> {
     const NAME: &str = "nothing planted";
     let right = |text: &[u8]| Ok(answer(text));
+    let right_outcome = |text: &[u8]| Ok(outcome::answer(text));
     vec![
         sized(NAME, SIZES, &right),
         damaged(NAME, &right),
+        sized_outcome(NAME, SIZES, &right_outcome),
+        damaged_outcome(NAME, &right_outcome),
         every_nth(NAME, &by_reference),
         promised(NAME, Member::after, unchanged),
         met_with_equality(NAME, &RULE),
         called(NAME, &by_reference),
+        told(NAME, &outcomes::by_reference),
         counted(NAME, &crashes::by_reference),
         schedules_written(NAME, &writes::by_reference),
         texts_read(NAME, &reads::by_reference),
@@ -128,6 +137,9 @@ pub fn plants() -> Vec<Plant> {
     plants.extend(counts());
     plants.extend(in_texts());
     plants.extend(in_calls());
+    plants.extend(in_outcomes());
+    plants.extend(in_outcome_calls());
+    plants.extend(in_outcome_texts());
     plants.extend(in_crash_counts());
     plants.extend(in_writes());
     plants.extend(in_reads());
@@ -146,11 +158,12 @@ pub fn plants() -> Vec<Plant> {
 /// breaks.
 pub fn faults() -> Vec<Plant> {
     let right = |text: &[u8]| Ok(answer(text));
-    let few = texts::compare_damaged(SEED, 3, &right);
+    let right_outcome = |text: &[u8]| Ok(outcome::answer(text));
+    let few = texts::compare_damaged(SEED, 3, Prints::Report, &right);
     let mut left_out = every_nth("schedules left out", &by_reference);
-    check_small_count(&mut left_out.summary, &left_out.outcome);
+    check_small_count(&mut left_out.summary, &left_out.findings);
     let mut fewer_rows = every_nth("rows that set the silent left out", &by_reference);
-    check_small_settings(&mut fewer_rows.summary, &fewer_rows.outcome);
+    check_small_settings(&mut fewer_rows.summary, &fewer_rows.findings);
     let too_few = CRASH_COUNTS / 2 - crashes::KINDS.len() as u64;
     let short = counted_times("one length left out", too_few, &crashes::by_reference);
     let name = "refusal numbers never met";
@@ -159,13 +172,26 @@ pub fn faults() -> Vec<Plant> {
         left_out,
         fewer_rows,
         sized("one size left out", SIZES - 1, &right),
+        sized_outcome("one size left out", SIZES - 1, &right_outcome),
         in_run_times("one size left out", SIZES - 1, &RIGHT),
         short,
     ];
+    faults.extend(few_outcomes());
     faults.extend(few_files());
     let loose = LOOSE.into_iter();
     faults.extend(loose.map(|(name, rule)| met_with_equality(name, &rule)));
     faults
+}
+
+/// Too few calls for the outcome.
+fn few_outcomes() -> [Plant; 2] {
+    let few = |count| outcomes::compare(SEED, count, &outcomes::by_reference);
+    let (part, numbers) = ("calls for the outcome", outcomes::NUMBERS);
+    let all_but_one = few(outcomes::KINDS as u64 - 1);
+    let mut kinds = Plant::new(part, "one kind left out", all_but_one, &[]);
+    check_kinds(&mut kinds.summary, part, &kinds.findings);
+    let never = Plant::new(part, "refusal numbers never met", few(3), &numbers);
+    [never, kinds]
 }
 
 /// Too few writings, readings and round trips.
@@ -185,7 +211,7 @@ fn few_files() -> Vec<Plant> {
         Plant::new("texts read", kind, few_reads(all_but_one.1), &[]),
     ];
     for mut plant in few_kinds {
-        check_kinds(&mut plant.summary, plant.part, &plant.outcome);
+        check_kinds(&mut plant.summary, plant.part, &plant.findings);
         faults.push(plant);
     }
     faults
@@ -276,6 +302,59 @@ fn in_calls() -> Vec<Plant> {
         called("reaches above n let pass", &wrong::reach_above_n),
         called("n and t taken as bytes", &wrong::sizes_as_bytes),
     ]
+}
+
+/// The wrong values and rounds that document 02's K6 invites, in every part that gives outcomes; and the wrong turns of
+/// hearing, but for the one that shows only after the first decision.
+fn in_outcomes() -> Vec<Plant> {
+    let of_take = |(name, take): (&'static str, OutcomeBy)| {
+        let tell = wrong_outcomes::taking(take);
+        [
+            valid_outcome(name, &wrong_outcomes::program_taking(take)),
+            every_nth_told(name, &tell),
+            told(name, &tell),
+        ]
+    };
+    let of_turn = |(name, hear): (&'static str, Hear)| {
+        let tell = wrong_outcomes::hearing(hear);
+        [every_nth_told(name, &tell), told(name, &tell)]
+    };
+    let mut plants: Vec<Plant> = TAKES.into_iter().flat_map(of_take).collect();
+    let shown = |(place, turn)| (place != STOPPING).then_some(turn);
+    let turns = TURNS.into_iter().enumerate().filter_map(shown);
+    plants.extend(turns.flat_map(of_turn));
+    plants
+}
+
+/// The wrong calls for the outcome that it invites, and those that K11 does.
+fn in_outcome_calls() -> Vec<Plant> {
+    let of_tell = |(name, tell): (&'static str, TellBy)| told(name, &tell);
+    let refusing =
+        |(name, refuse): (&'static str, Refuse)| told(name, &wrong_outcomes::refusing(refuse));
+    let cutting = |(name, cut): (&'static str, Cut)| told(name, &wrong_outcomes::cutting(cut));
+    let estimates = wrong_outcomes::hearing(limits::estimates_in_six_bits);
+    let mut plants: Vec<Plant> = WRITTEN.into_iter().chain(ASKED).map(of_tell).collect();
+    plants.extend(REFUSED.into_iter().map(refusing));
+    plants.extend(CUTS.into_iter().map(cutting));
+    plants.push(told("64 estimates counted in six bits", &estimates));
+    plants
+}
+
+/// The wrong lines that it invites.
+fn in_outcome_texts() -> Vec<Plant> {
+    let of_print = |(name, print): (&'static str, Print)| {
+        valid_outcome(name, &wrong_outcomes::printing(print))
+    };
+    let of_refusal = |(name, answer): (&'static str, AnswerBy)| {
+        damaged_outcome(name, &move |text: &[u8]| Ok(answer(text)))
+    };
+    let mut plants: Vec<Plant> = PRINTED.into_iter().map(of_print).collect();
+    plants.extend(REFUSALS.into_iter().map(of_refusal));
+    plants.push(valid_outcome(
+        "the report printed",
+        &wrong_outcomes::report_printed,
+    ));
+    plants
 }
 
 /// The wrong counts of crashes.
@@ -486,28 +565,62 @@ fn valid(name: &'static str, program: Program) -> Plant {
 /// The same on so many texts, which have to be of all sizes.
 fn sized(name: &'static str, count: u64, program: Program) -> Plant {
     let mut plant = valid_times(name, count, program);
-    check_sizes(&mut plant.summary, plant.part, &plant.outcome);
+    check_sizes(&mut plant.summary, plant.part, &plant.findings);
     plant
 }
 
 fn valid_times(name: &'static str, count: u64, program: Program) -> Plant {
-    let outcome = texts::compare_valid(SEED, count, program);
-    Plant::new("valid texts", name, outcome, &[])
+    let findings = texts::compare_valid(SEED, count, Prints::Report, program);
+    Plant::new("valid texts", name, findings, &[])
 }
 
 fn damaged(name: &'static str, program: Program) -> Plant {
-    let outcome = texts::compare_damaged(SEED, DAMAGED, program);
-    Plant::new("damaged texts", name, outcome, &texts::NUMBERS)
+    let findings = texts::compare_damaged(SEED, DAMAGED, Prints::Report, program);
+    Plant::new("damaged texts", name, findings, &texts::NUMBERS)
+}
+
+/// The same texts through a program that prints the outcome.
+fn valid_outcome(name: &'static str, program: Program) -> Plant {
+    valid_outcome_times(name, VALID, program)
+}
+
+fn sized_outcome(name: &'static str, count: u64, program: Program) -> Plant {
+    let mut plant = valid_outcome_times(name, count, program);
+    check_sizes(&mut plant.summary, plant.part, &plant.findings);
+    plant
+}
+
+fn valid_outcome_times(name: &'static str, count: u64, program: Program) -> Plant {
+    let findings = texts::compare_valid(SEED, count, Prints::Outcome, program);
+    Plant::new("valid texts, outcome", name, findings, &[])
+}
+
+fn damaged_outcome(name: &'static str, program: Program) -> Plant {
+    let findings = texts::compare_damaged(SEED, DAMAGED, Prints::Outcome, program);
+    Plant::new("damaged texts, outcome", name, findings, &texts::NUMBERS)
 }
 
 fn every_nth(name: &'static str, simulate: Simulate) -> Plant {
-    let outcome = small::compare(STEP, simulate);
-    Plant::new("n = 4, t = 3", name, outcome, &[])
+    let findings = small::compare(STEP, simulate, &outcomes::by_reference);
+    Plant::new("n = 4, t = 3", name, findings, &[])
+}
+
+/// The same schedules, with the difference in the call for the outcome.
+fn every_nth_told(name: &'static str, tell: Tell) -> Plant {
+    let findings = small::compare(STEP, &by_reference, tell);
+    Plant::new("n = 4, t = 3, outcome", name, findings, &[])
 }
 
 fn called(name: &'static str, simulate: Simulate) -> Plant {
-    let outcome = tables::compare(SEED, TABLES, simulate);
-    Plant::new("calls on tables", name, outcome, &tables::NUMBERS)
+    let findings = tables::compare(SEED, TABLES, simulate);
+    Plant::new("calls on tables", name, findings, &tables::NUMBERS)
+}
+
+fn told(name: &'static str, tell: Tell) -> Plant {
+    let findings = outcomes::compare(SEED, OUTCOMES, tell);
+    let mut plant = Plant::new("calls for the outcome", name, findings, &outcomes::NUMBERS);
+    check_kinds(&mut plant.summary, plant.part, &plant.findings);
+    plant
 }
 
 fn counted(name: &'static str, count_crashes: CountCrashes) -> Plant {
@@ -515,23 +628,23 @@ fn counted(name: &'static str, count_crashes: CountCrashes) -> Plant {
 }
 
 fn counted_times(name: &'static str, count: u64, count_crashes: CountCrashes) -> Plant {
-    let outcome = crashes::compare(SEED, count, count_crashes);
-    let mut plant = Plant::new("counts of crashes", name, outcome, &[]);
-    check_lengths(&mut plant.summary, &plant.outcome);
+    let findings = crashes::compare(SEED, count, count_crashes);
+    let mut plant = Plant::new("counts of crashes", name, findings, &[]);
+    check_lengths(&mut plant.summary, &plant.findings);
     plant
 }
 
 fn schedules_written(name: &'static str, write: Write) -> Plant {
-    let outcome = writes::compare(SEED, WRITES, write);
-    let mut plant = Plant::new("schedules written", name, outcome, &writes::NUMBERS);
-    check_kinds(&mut plant.summary, plant.part, &plant.outcome);
+    let findings = writes::compare(SEED, WRITES, write);
+    let mut plant = Plant::new("schedules written", name, findings, &writes::NUMBERS);
+    check_kinds(&mut plant.summary, plant.part, &plant.findings);
     plant
 }
 
 fn texts_read(name: &'static str, read: Read) -> Plant {
-    let outcome = reads::compare(SEED, READS, read);
-    let mut plant = Plant::new("texts read", name, outcome, &reads::NUMBERS);
-    check_kinds(&mut plant.summary, plant.part, &plant.outcome);
+    let findings = reads::compare(SEED, READS, read);
+    let mut plant = Plant::new("texts read", name, findings, &reads::NUMBERS);
+    check_kinds(&mut plant.summary, plant.part, &plant.findings);
     plant
 }
 
@@ -541,16 +654,16 @@ fn tripped(name: &'static str, write: Write, read: Read) -> Plant {
 
 /// The same over so many round trips, which have to be of all sizes and kinds.
 fn tripped_times(name: &'static str, count: u64, write: Write, read: Read) -> Plant {
-    let outcome = trips::compare(SEED, count, write, read);
-    let mut plant = Plant::new("round trips", name, outcome, &[]);
-    check_sizes(&mut plant.summary, plant.part, &plant.outcome);
-    check_kinds(&mut plant.summary, plant.part, &plant.outcome);
+    let findings = trips::compare(SEED, count, write, read);
+    let mut plant = Plant::new("round trips", name, findings, &[]);
+    check_sizes(&mut plant.summary, plant.part, &plant.findings);
+    check_kinds(&mut plant.summary, plant.part, &plant.findings);
     plant
 }
 
 fn machine(name: &'static str, machine: &dyn Machine) -> Plant {
-    let outcome = members::compare(SEED, MEMBERS, machine);
-    Plant::new("calls to a member", name, outcome, &members::NUMBERS)
+    let findings = members::compare(SEED, MEMBERS, machine);
+    Plant::new("calls to a member", name, findings, &members::NUMBERS)
 }
 
 fn in_run(name: &'static str, machine: &dyn Machine) -> Plant {
@@ -559,9 +672,9 @@ fn in_run(name: &'static str, machine: &dyn Machine) -> Plant {
 
 /// The same over so many runs, which have to be of all sizes.
 fn in_run_times(name: &'static str, count: u64, machine: &dyn Machine) -> Plant {
-    let outcome = runs::compare(SEED, count, machine);
-    let mut plant = Plant::new("members in runs", name, outcome, &[]);
-    check_sizes(&mut plant.summary, plant.part, &plant.outcome);
+    let findings = runs::compare(SEED, count, machine);
+    let mut plant = Plant::new("members in runs", name, findings, &[]);
+    check_sizes(&mut plant.summary, plant.part, &plant.findings);
     plant
 }
 
@@ -578,21 +691,21 @@ fn ruled(name: &'static str, rule: &Rule) -> Plant {
 
 fn finished(name: &'static str, rule: &Rule, hear: Hear, change: Change) -> Plant {
     let sizes = generate::sizes();
-    let outcome = share(SIZES, 0, |outcome, case| {
+    let findings = share(SIZES, 0, |findings, case| {
         let mut random = Random::of_case(SEED, 0, case);
         let (_, schedule) = generate::of_case(&mut random, &sizes, case);
         let (run, hearings) = wrong::changed_run_heard(&schedule, hear, change);
-        demands::check_by(rule, outcome, case, &schedule, &run, &hearings);
+        demands::check_by(rule, findings, case, &schedule, &run, &hearings);
     });
-    Plant::new("finished runs", name, outcome, &[])
+    Plant::new("finished runs", name, findings, &[])
 }
 
 /// The same rule on the right runs of all schedules with n = 4 and t = 3, and how often they meet it with equality, and
 /// set the silent processes.
 fn met_with_equality(name: &'static str, rule: &Rule) -> Plant {
     let mut plant = Plant::new("all of n = 4, t = 3", name, small::hold(rule), &[]);
-    check_small_equalities(&mut plant.summary, &plant.outcome);
-    check_small_settings(&mut plant.summary, &plant.outcome);
+    check_small_equalities(&mut plant.summary, &plant.findings);
+    check_small_settings(&mut plant.summary, &plant.findings);
     plant
 }
 
@@ -727,7 +840,7 @@ mod tests {
     #[test]
     fn finished_runs_break_what_is_planted() {
         let found = |plant: &Plant, start: &str| {
-            let mut differences = plant.outcome.differences.iter();
+            let mut differences = plant.findings.differences.iter();
             assert!(
                 differences.any(|(_, words)| words.starts_with(start)),
                 "{}: no {start}",
@@ -764,7 +877,7 @@ mod tests {
     #[test]
     fn late_runs_break_the_crashes_so_far_alone() {
         for plant in late_runs() {
-            for (_, words) in &plant.outcome.differences {
+            for (_, words) in &plant.findings.differences {
                 assert!(words.starts_with("crashes so far: "), "{words}");
             }
         }
@@ -778,7 +891,7 @@ mod tests {
         let ways = IN_RUNS.into_iter().take(IN_RUNS.len() - 1);
         for (place, (name, hear)) in ways.enumerate() {
             let plant = in_run_times(name, SIZES / 16, &Wrong { hear, ..RIGHT });
-            let broken = plant.outcome.broken != 0;
+            let broken = plant.findings.broken != 0;
             assert_eq!(broken, place >= silent::SHOULD_SET, "{name}");
         }
     }

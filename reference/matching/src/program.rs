@@ -1,4 +1,4 @@
-//! The compiled `bench`: a process for each text.
+//! A compiled program, `bench` or `outcome`: a process for each text.
 
 use std::io::{ErrorKind, Write};
 use std::path::Path;

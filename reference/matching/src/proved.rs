@@ -6,6 +6,7 @@ use reference::run::Counts;
 use reference::schedule::Schedule;
 
 use crate::members::{Machine, State};
+use crate::outcomes::Lent;
 use crate::reads::{Numbers, Tables};
 
 // The libraries and the reference take the same clusters. Their sets have the same type, or no reach could be passed.
@@ -32,6 +33,18 @@ pub fn simulate(
         last: counts.last,
         messages: counts.messages,
     })
+}
+
+/// The call for the outcome.
+pub fn outcome(schedule: &Schedule, lent: &mut Lent) -> Result<(), u8> {
+    bytes::outcome(
+        schedule.n,
+        schedule.t,
+        &schedule.votes,
+        &schedule.crashes,
+        &schedule.reaches,
+        lent,
+    )
 }
 
 /// The count of crashes.

@@ -7,8 +7,8 @@ use reference::text::write;
 use reference::{Set, LARGEST};
 
 use crate::damage::{damaged, DAMAGES};
+use crate::findings::{share, Findings};
 use crate::generate::{of_size, sizes, walked};
-use crate::outcome::{share, Outcome};
 use crate::random::Random;
 use crate::texts::show;
 
@@ -125,18 +125,18 @@ pub fn by_reference(text: &[u8], tables: &mut Tables, numbers: &mut Numbers) -> 
 }
 
 /// Compares so many readings. The sizes are walked: each comes up once with every kind, and then the next one.
-pub fn compare(seed: u64, count: u64, read: Read) -> Outcome {
+pub fn compare(seed: u64, count: u64, read: Read) -> Findings {
     let sizes = sizes();
-    share(count, KINDS, |outcome, case| {
+    share(count, KINDS, |findings, case| {
         let (kind, call) = of_case(seed, &sizes, case);
         let expected = call.answer(&by_reference);
-        outcome.count(kind, expected.accepted.err());
+        findings.count(kind, expected.accepted.err());
         if expected.accepted.is_ok() {
             let [n, t, _] = expected.numbers;
-            outcome.sizes.insert((n, t));
+            findings.sizes.insert((n, t));
         }
         let found = call.answer(read);
-        outcome.compare(case, expected == found, || call.words(&expected, &found));
+        findings.compare(case, expected == found, || call.words(&expected, &found));
     })
 }
 

@@ -1,5 +1,6 @@
 //! Every accepted schedule with n = 4 and t = 3.
 
+use reference::outcome::of_run;
 use reference::questions::Refusal;
 use reference::run::run_heard;
 use reference::schedule::Schedule;
@@ -8,7 +9,8 @@ use reference::so_far::{Equalities, Rule};
 use reference::Set;
 
 use crate::demands;
-use crate::outcome::{share, Outcome};
+use crate::findings::{share, Findings};
+use crate::outcomes::{self, Tell};
 use crate::tables::{compare_answers, Answer, Call, Simulate};
 
 /// How many there are: 16 votes, and 33 ways for each process to crash or not, without those where all four crash.
@@ -88,34 +90,37 @@ const T: usize = 3;
 /// Vote, crash round and reach of one process.
 type Choice = (u8, u8, Set);
 
-/// Compares every `step`-th accepted schedule, so each one if `step` is 1.
-pub fn compare(step: usize, simulate: Simulate) -> Outcome {
-    share_schedules(step, |outcome, case, schedule| {
-        compare_one(outcome, case, schedule, simulate);
+/// The calls that each schedule is put through, by name: each gives an answer.
+pub const CALLS: [&str; 2] = ["the whole run", "the outcome"];
+
+/// Compares every `step`-th accepted schedule, so each one if `step` is 1, through both calls.
+pub fn compare(step: usize, simulate: Simulate, tell: Tell) -> Findings {
+    share_schedules(step, |findings, case, schedule| {
+        compare_one(findings, case, schedule, simulate, tell);
     })
 }
 
 /// Compares nothing, and holds the reference's run of each accepted schedule against what is promised, with a given
 /// rule of the crashes so far.
-pub fn hold(rule: &Rule) -> Outcome {
-    share_schedules(1, |outcome, case, schedule| {
+pub fn hold(rule: &Rule) -> Findings {
+    share_schedules(1, |findings, case, schedule| {
         let (run, hearings) = run_heard(schedule).expect("the schedule is accepted");
-        demands::check_by(rule, outcome, case, schedule, &run, &hearings);
+        demands::check_by(rule, findings, case, schedule, &run, &hearings);
     })
 }
 
 /// Takes every `step`-th accepted schedule, shared among threads.
-fn share_schedules(step: usize, each: impl Fn(&mut Outcome, u64, &Schedule) + Sync) -> Outcome {
+fn share_schedules(step: usize, each: impl Fn(&mut Findings, u64, &Schedule) + Sync) -> Findings {
     let choices: Vec<Vec<Choice>> = (1..=N).map(choices).collect();
     let firsts = choices[0].len() as u64;
-    share(firsts, 1, |outcome, first| {
+    share(firsts, CALLS.len(), |findings, first| {
         let mut schedule = Schedule::quiet(N, T);
         set(&mut schedule, 1, choices[0][first as usize]);
         let mut case = first * COUNT;
         for_each_from(&mut schedule, 2, &choices, &mut |schedule| {
             case += 1;
             if case as usize % step == 0 {
-                each(outcome, case, schedule);
+                each(findings, case, schedule);
             }
         });
     })
@@ -164,10 +169,19 @@ fn for_each_from(
     }
 }
 
-fn compare_one(outcome: &mut Outcome, case: u64, schedule: &Schedule, simulate: Simulate) {
+fn compare_one(
+    findings: &mut Findings,
+    case: u64,
+    schedule: &Schedule,
+    simulate: Simulate,
+    tell: Tell,
+) {
     let (run, hearings) = run_heard(schedule).expect("the schedule is accepted");
-    demands::check(outcome, case, schedule, &run, &hearings);
-    outcome.count(0, None);
+    demands::check(findings, case, schedule, &run, &hearings);
+    for call in 0..CALLS.len() {
+        findings.count(call, None);
+    }
+    outcomes::compare_accepted(findings, case, schedule, of_run(&run), tell);
     let call = Call {
         schedule: schedule.clone(),
         decisions: vec![9; N],
@@ -179,5 +193,5 @@ fn compare_one(outcome: &mut Outcome, case: u64, schedule: &Schedule, simulate: 
         decisions: run.decisions,
         rounds: run.rounds,
     };
-    compare_answers(outcome, case, &call, &expected, &found);
+    compare_answers(findings, case, &call, &expected, &found);
 }

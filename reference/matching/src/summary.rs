@@ -4,7 +4,7 @@ use reference::silent::Settings;
 use reference::so_far::Equalities;
 use reference::LONGEST;
 
-use crate::outcome::{Kind, Outcome};
+use crate::findings::{Findings, Kind};
 
 /// What all parts found together.
 #[derive(Clone, Debug, Default)]
@@ -17,13 +17,13 @@ pub struct Summary {
 }
 
 impl Summary {
-    /// Adds the outcome of a part that has to meet these refusal numbers.
-    pub fn add(&mut self, part: &str, outcome: &Outcome, numbers: &[u8]) {
-        self.compared += outcome.compared;
-        self.differ += outcome.differ;
-        self.demands += outcome.demands;
-        self.broken += outcome.broken;
-        for number in outcome.never_met(numbers) {
+    /// Adds the findings of a part that has to meet these refusal numbers.
+    pub fn add(&mut self, part: &str, findings: &Findings, numbers: &[u8]) {
+        self.compared += findings.compared;
+        self.differ += findings.differ;
+        self.demands += findings.demands;
+        self.broken += findings.broken;
+        for number in findings.never_met(numbers) {
             self.fault(format!("{part}: refusal number {number} was never met"));
         }
     }
@@ -53,8 +53,8 @@ impl Summary {
 }
 
 /// Prints what a part found: its heading, its kinds with their counts, the numbers met, the first differences.
-pub fn print_part(heading: &str, names: &[&str], outcome: &Outcome, numbers: &[u8]) {
-    let total = outcome
+pub fn print_part(heading: &str, names: &[&str], findings: &Findings, numbers: &[u8]) {
+    let total = findings
         .kinds
         .iter()
         .fold(Kind::default(), |sum, kind| Kind {
@@ -62,25 +62,25 @@ pub fn print_part(heading: &str, names: &[&str], outcome: &Outcome, numbers: &[u
             refused: sum.refused + kind.refused,
         });
     println!("{heading}: {}", words(&total));
-    for (name, kind) in names.iter().zip(&outcome.kinds) {
+    for (name, kind) in names.iter().zip(&findings.kinds) {
         println!("  {}: {}", spelled(name), words(kind));
     }
     if !numbers.is_empty() {
-        let met = |number: &u8| format!("{number} met {}", outcome.met[usize::from(*number)]);
+        let met = |number: &u8| format!("{number} met {}", findings.met[usize::from(*number)]);
         let met: Vec<String> = numbers.iter().map(met).collect();
         println!("  refusal numbers: {}", met.join(", "));
     }
-    if outcome.demands != 0 {
-        println!("  {}", demand_words(outcome.demands, outcome.broken));
-        println!("  {}", equality_words(outcome.equalities));
-        println!("  {}", setting_words(outcome.settings));
+    if findings.demands != 0 {
+        println!("  {}", demand_words(findings.demands, findings.broken));
+        println!("  {}", equality_words(findings.equalities));
+        println!("  {}", setting_words(findings.settings));
     }
     println!(
         "  answers: {} equal, {} different",
-        outcome.compared - outcome.differ,
-        outcome.differ
+        findings.compared - findings.differ,
+        findings.differ
     );
-    for (case, difference) in &outcome.differences {
+    for (case, difference) in &findings.differences {
         println!("DIFFERENCE in case {case}\n{difference}");
     }
 }

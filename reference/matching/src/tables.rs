@@ -5,8 +5,8 @@ use reference::run::{self, Counts};
 use reference::schedule::{bit, Schedule};
 use reference::LARGEST;
 
+use crate::findings::{share, Findings};
 use crate::generate::{of_size, sizes, walked};
-use crate::outcome::{share, Outcome};
 use crate::random::Random;
 
 /// The call under test: it fills the two answer tables, decisions and rounds, and gives the counts or a number.
@@ -58,31 +58,31 @@ pub fn by_reference(
 
 /// Compares two answers to a call.
 pub fn compare_answers(
-    outcome: &mut Outcome,
+    findings: &mut Findings,
     case: u64,
     call: &Call,
     expected: &Answer,
     found: &Answer,
 ) {
-    outcome.compare(case, expected == found, || {
+    findings.compare(case, expected == found, || {
         format!("call: {call:?}\nreference: {expected:?}\nunder test: {found:?}\n")
     });
 }
 
 /// Compares so many calls. The sizes are walked: each comes up once with every kind, and then the next one.
-pub fn compare(seed: u64, count: u64, simulate: Simulate) -> Outcome {
+pub fn compare(seed: u64, count: u64, simulate: Simulate) -> Findings {
     let sizes = sizes();
-    share(count, KINDS.len(), |outcome, case| {
+    share(count, KINDS.len(), |findings, case| {
         let mut random = Random::of_case(seed, TABLES, case);
         let (walk, kind) = (case as usize / KINDS.len(), case as usize % KINDS.len());
         let call = call_of_kind(&mut random, walked(&sizes, walk), kind);
         let expected = call.answer(&by_reference);
-        outcome.count(kind, expected.counts.err());
+        findings.count(kind, expected.counts.err());
         if expected.counts.is_ok() {
-            outcome.sizes.insert((call.schedule.n, call.schedule.t));
+            findings.sizes.insert((call.schedule.n, call.schedule.t));
         }
         let found = call.answer(simulate);
-        compare_answers(outcome, case, &call, &expected, &found);
+        compare_answers(findings, case, &call, &expected, &found);
     })
 }
 

@@ -1,17 +1,38 @@
-//! Texts through a program and through the reference, byte for byte.
+//! Texts through a program, `bench` or `outcome`, and through the reference, byte for byte.
 
+use reference::outcome::{lines, of_run};
 use reference::report::{refusal, report};
-use reference::run::run_heard;
+use reference::run::{run_heard, Run};
+use reference::schedule::Schedule;
 use reference::text::{read, write};
 
 use crate::damage::{damaged, DAMAGES};
 use crate::demands;
+use crate::findings::{share, Findings};
 use crate::generate::{of_case, of_size, sizes, FAMILIES};
-use crate::outcome::{share, Outcome};
 use crate::random::Random;
 
 /// The program under test: what it prints for a text, or in words why there is no answer.
 pub type Program<'a> = &'a (dyn Fn(&[u8]) -> Result<Vec<u8>, String> + Sync);
+
+/// What a program prints for an accepted schedule. A refused text gets the same lines from both.
+#[derive(Clone, Copy, Debug, PartialEq, Eq)]
+pub enum Prints {
+    /// The report, as `bench` does.
+    Report,
+    /// The outcome, as `outcome` does.
+    Outcome,
+}
+
+impl Prints {
+    /// The lines for a schedule with its finished run.
+    fn lines(self, schedule: &Schedule, run: &Run) -> Vec<u8> {
+        match self {
+            Prints::Report => report(schedule, run),
+            Prints::Outcome => lines(of_run(run)),
+        }
+    }
+}
 
 /// The refusal numbers that a text can get.
 pub const NUMBERS: [u8; 8] = [1, 2, 4, 5, 6, 7, 8, 9];
@@ -21,28 +42,28 @@ const VALID: u64 = 1;
 const DAMAGED: u64 = 2;
 
 /// Compares so many texts of accepted schedules.
-pub fn compare_valid(seed: u64, count: u64, program: Program) -> Outcome {
+pub fn compare_valid(seed: u64, count: u64, prints: Prints, program: Program) -> Findings {
     let sizes = sizes();
-    share(count, FAMILIES.len(), |outcome, case| {
+    share(count, FAMILIES.len(), |findings, case| {
         let mut random = Random::of_case(seed, VALID, case);
         let (family, schedule) = of_case(&mut random, &sizes, case);
         let text = write(&schedule);
         assert_eq!(read(&text), Ok(schedule), "a generated text is accepted");
-        compare(outcome, case, family, &text, program);
+        compare(findings, case, family, &text, prints, program);
     })
 }
 
 /// Compares damaged texts until so many are refused; those still accepted are compared and counted apart.
-pub fn compare_damaged(seed: u64, count: u64, program: Program) -> Outcome {
+pub fn compare_damaged(seed: u64, count: u64, prints: Prints, program: Program) -> Findings {
     let sizes = sizes();
-    share(count, DAMAGES.len(), |outcome, case| {
+    share(count, DAMAGES.len(), |findings, case| {
         let mut random = Random::of_case(seed, DAMAGED, case);
         let kind = case as usize % DAMAGES.len();
         loop {
             let size = random.pick(&sizes);
             let schedule = of_size(&mut random, size);
             let text = damaged(&mut random, &schedule, kind);
-            if compare(outcome, case, kind, &text, program).is_some() {
+            if compare(findings, case, kind, &text, prints, program).is_some() {
                 break;
             }
         }
@@ -51,10 +72,11 @@ pub fn compare_damaged(seed: u64, count: u64, program: Program) -> Outcome {
 
 /// Compares both answers to a text; gives the number of its refusal.
 fn compare(
-    outcome: &mut Outcome,
+    findings: &mut Findings,
     case: u64,
     kind: usize,
     text: &[u8],
+    prints: Prints,
     program: Program,
 ) -> Option<u8> {
     let (expected, number) = match read(text) {
@@ -62,14 +84,17 @@ fn compare(
         Ok(schedule) => {
             let heard = run_heard(&schedule);
             let (run, hearings) = heard.expect("the reader asks every question of a run");
-            demands::check(outcome, case, &schedule, &run, &hearings);
-            outcome.sizes.insert((schedule.n, schedule.t));
-            (report(&schedule, &run), None)
+            // Both programs get the same texts, whose runs are held against what is promised once.
+            if prints == Prints::Report {
+                demands::check(findings, case, &schedule, &run, &hearings);
+            }
+            findings.sizes.insert((schedule.n, schedule.t));
+            (prints.lines(&schedule, &run), None)
         }
     };
-    outcome.count(kind, number);
+    findings.count(kind, number);
     let found = program(text);
-    outcome.compare(case, found.as_ref() == Ok(&expected), || {
+    findings.compare(case, found.as_ref() == Ok(&expected), || {
         let found = match &found {
             Ok(printed) => show(printed),
             Err(words) => format!("  {words}\n"),

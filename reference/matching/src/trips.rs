@@ -6,8 +6,8 @@ use reference::text;
 use reference::{LARGEST, LONGEST};
 
 use crate::damage::{damaged, DAMAGES};
+use crate::findings::{share, Findings};
 use crate::generate::{of_case, sizes, FAMILIES};
-use crate::outcome::{share, Outcome};
 use crate::random::Random;
 use crate::reads::{any_numbers, Numbers, Read, Tables};
 use crate::texts::show;
@@ -20,17 +20,17 @@ const TRIPS: u64 = 9;
 const DIGIT_CHANGED: usize = 1;
 
 /// Compares so many round trips each way, on schedules of all families and sizes in turn.
-pub fn compare(seed: u64, count: u64, write: Write, read: Read) -> Outcome {
+pub fn compare(seed: u64, count: u64, write: Write, read: Read) -> Findings {
     let sizes = sizes();
-    share(count, FAMILIES.len(), |outcome, case| {
+    share(count, FAMILIES.len(), |findings, case| {
         let mut random = Random::of_case(seed, TRIPS, case);
         let (family, schedule) = of_case(&mut random, &sizes, case);
-        outcome.count(family, None);
-        outcome.sizes.insert((schedule.n, schedule.t));
+        findings.count(family, None);
+        findings.sizes.insert((schedule.n, schedule.t));
         let there = written_and_read(&mut random, &schedule, write, read);
-        outcome.compare(case, there.is_ok(), || failed(&schedule, there));
+        findings.compare(case, there.is_ok(), || failed(&schedule, there));
         let back = read_and_written(&mut random, &schedule, write, read);
-        outcome.compare(case, back.is_ok(), || failed(&schedule, back));
+        findings.compare(case, back.is_ok(), || failed(&schedule, back));
     })
 }
 
@@ -138,8 +138,8 @@ mod tests {
 
     #[test]
     fn each_trip_is_compared_both_ways() {
-        let outcome = compare(1, 40, &writes::by_reference, &reads::by_reference);
-        assert_eq!((outcome.compared, outcome.differ), (80, 0));
-        assert_eq!(outcome.sizes.len(), 40);
+        let findings = compare(1, 40, &writes::by_reference, &reads::by_reference);
+        assert_eq!((findings.compared, findings.differ), (80, 0));
+        assert_eq!(findings.sizes.len(), 40);
     }
 }

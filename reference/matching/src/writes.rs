@@ -9,8 +9,8 @@ use reference::schedule::Schedule;
 use reference::text;
 use reference::{LARGEST, LONGEST};
 
+use crate::findings::{share, Findings};
 use crate::generate::{of_size, sizes, walked};
-use crate::outcome::{share, Outcome};
 use crate::random::Random;
 use crate::tables;
 
@@ -79,17 +79,17 @@ pub fn by_reference(schedule: &Schedule, buffer: &mut [u8], used: &mut usize) ->
 }
 
 /// Compares so many writings. The sizes are walked: each comes up once with every kind, and then the next one.
-pub fn compare(seed: u64, count: u64, write: Write) -> Outcome {
+pub fn compare(seed: u64, count: u64, write: Write) -> Findings {
     let sizes = sizes();
-    share(count, KINDS, |outcome, case| {
+    share(count, KINDS, |findings, case| {
         let (kind, call) = of_case(seed, &sizes, case);
         let expected = call.answer(&by_reference);
-        outcome.count(kind, expected.accepted.err());
+        findings.count(kind, expected.accepted.err());
         if expected.accepted.is_ok() {
-            outcome.sizes.insert((call.schedule.n, call.schedule.t));
+            findings.sizes.insert((call.schedule.n, call.schedule.t));
         }
         let found = call.answer(write);
-        outcome.compare(case, expected == found, || call.words(&expected, &found));
+        findings.compare(case, expected == found, || call.words(&expected, &found));
     })
 }
 

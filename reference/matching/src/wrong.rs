@@ -33,6 +33,9 @@ pub const TURNS: [(&str, Hear); 7] = [
     ("one estimate fewer in round t", one_estimate_fewer),
 ];
 
+/// The place of the turn that shows only after the first decision.
+pub const STOPPING: usize = 3;
+
 /// Decides in the member's round or not, as given, if the rule on the number of silent processes is asked there and
 /// that number is as given. The right turn is kept elsewhere.
 fn turn(member: &Member, row: &[u8], silent: impl Fn(usize) -> bool, decides: bool) -> Member {

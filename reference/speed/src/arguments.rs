@@ -9,9 +9,10 @@ speed --help";
 pub fn help() -> String {
     format!(
         "\
-Compares the answers of the limit with those of the reference, then measures the proved simulator against both, and the
-member's hear and the writer and the reader of a schedule's text against the reference, all in one run on the same
-schedules, and prints tables of each. It takes about 30 seconds; docs/PERFORMANCE.md says how to read the tables.
+Compares the answers of the limit with those of the reference, then measures the proved simulator and the proved call
+for the outcome against both and against each other, and the member's hear and the writer and the reader of a schedule's
+text against the reference, all in one run on the same schedules, and prints tables of each. It takes about 40 seconds;
+docs/PERFORMANCE.md says how to read the tables.
 
 {USAGE}
 
@@ -20,7 +21,8 @@ schedules, and prints tables of each. It takes about 30 seconds; docs/PERFORMANC
 
 What stands in brackets holds if the flag is not given.
 
-The exit status is 0 if the limit and the reference never differ, 1 if they do, and 2 for wrong arguments.
+The exit status is 0 if the limit and the reference never differ and, where it is measured, the outcome is faster than
+the whole run at every n; 1 otherwise, and 2 for wrong arguments.
 "
     )
 }

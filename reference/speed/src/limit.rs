@@ -1,10 +1,11 @@
 //! A limit to measure against: the run of a schedule with sets of processes held as words.
 //!
 //! It keeps no member and forms no row. Who is alive, who has estimate 0 and who decided are words; what a process hears is a word, and its
-//! rules are masks and counts of ones. Bit i of a word stands for the process at place i. It stops as soon as nobody speaks. It asks the
-//! same questions and answers the same as the call on tables; `speed` compares all answers with the reference's before it measures
-//! anything.
+//! rules are masks and counts of ones. Bit i of a word stands for the process at place i. It stops as soon as nobody speaks, or, where only
+//! the outcome is asked for, as soon as somebody has decided. It asks the same questions and answers the same as the call on tables and the
+//! call for the outcome; `speed` compares all answers with the reference's before it measures anything.
 
+use matching::outcomes::Lent;
 use reference::questions::SIZES;
 use reference::run::{Counts, NONE};
 use reference::schedule::Schedule;
@@ -25,7 +26,7 @@ fn take_lowest(set: &mut Set) -> Option<usize> {
     Some(place)
 }
 
-/// The number of the first question whose answer is no, or 0.
+/// The number of the first question whose answer is no, or 0, for a call that takes two answer tables of these lengths.
 fn question(s: &Schedule, decisions: usize, rounds: usize) -> u8 {
     if !SIZES.contains(&s.n) {
         return 1;
@@ -180,17 +181,22 @@ impl Run {
     }
 }
 
+/// Who crashes in each round, with 0 for never; t + 1 is at most the largest n.
+fn crashing(s: &Schedule) -> [Set; LARGEST + 1] {
+    let mut crashing = [0; LARGEST + 1];
+    for (place, &crash) in s.crashes.iter().enumerate() {
+        crashing[usize::from(crash)] |= 1 << place;
+    }
+    crashing
+}
+
 /// The call on tables.
 pub fn simulate(s: &Schedule, decisions: &mut [u8], rounds: &mut [u8]) -> Result<Counts, u8> {
     let number = question(s, decisions.len(), rounds.len());
     if number != 0 {
         return Err(number);
     }
-    // Who crashes in each round, with 0 for never; t + 1 is at most the largest n.
-    let mut crashing = [0; LARGEST + 1];
-    for (place, &crash) in s.crashes.iter().enumerate() {
-        crashing[usize::from(crash)] |= 1 << place;
-    }
+    let crashing = crashing(s);
     let mut run = Run::opened(s);
     rounds.fill(0);
     for (r, &crashing) in crashing.iter().enumerate().take(s.t + 2).skip(1) {
@@ -200,4 +206,24 @@ pub fn simulate(s: &Schedule, decisions: &mut [u8], rounds: &mut [u8]) -> Result
         run.play(s, r, crashing, rounds);
     }
     Ok(run.answer(s, crashing[0], decisions, rounds))
+}
+
+/// The call for the outcome.
+pub fn outcome(s: &Schedule, lent: &mut Lent) -> Result<(), u8> {
+    // It takes no answer tables, and so they have the right length.
+    let number = question(s, s.n, s.n);
+    if number != 0 {
+        return Err(number);
+    }
+    let mut run = Run::opened(s);
+    let mut rounds = [0; LARGEST];
+    for (r, &crashing) in crashing(s).iter().enumerate().take(s.t + 2).skip(1) {
+        run.play(s, r, crashing, &mut rounds);
+        if run.decided != 0 {
+            let lowest = run.decided.trailing_zeros();
+            *lent = [1 - (run.zero >> lowest & 1) as u8, r as u8];
+            break;
+        }
+    }
+    Ok(())
 }

@@ -1,5 +1,5 @@
-//! How fast the proved code is: the simulator against the reference and against a limit, and the member's hear and the writer and the
-//! reader of a schedule's text against the reference.
+//! How fast the proved code is: the simulator and the call for the outcome against the reference and against a limit, the call for the
+//! outcome against the simulator, and the member's hear and the writer and the reader of a schedule's text against the reference.
 //!
 //! `speed` compares the limit's answers with the reference's, then measures all in one run on the same schedules. `speed --check` only
 //! compares. docs/PERFORMANCE.md says how to read what is printed.
@@ -12,13 +12,13 @@ mod tables;
 
 use std::process::ExitCode;
 
-use matching::small;
-use matching::tables::compare;
+use matching::{outcomes, small, tables as calls};
 
 use arguments::{help, parse, Task, USAGE};
 
-/// How many random calls the limit is compared on, accepted and refused ones.
+/// How many random calls the limit is compared on, accepted and refused ones: calls on tables, and calls for the outcome.
 const CALLS: u64 = 200_000;
+const OUTCOME_CALLS: u64 = 120_000;
 
 /// Every so many of the schedules with n = 4 and t = 3 are compared too.
 const STEP: usize = 7;
@@ -26,8 +26,9 @@ const STEP: usize = 7;
 /// Compares the limit with the reference; true if they never differ.
 fn limit_is_right() -> bool {
     let parts = [
-        compare(1, CALLS, &limit::simulate),
-        small::compare(STEP, &limit::simulate),
+        calls::compare(1, CALLS, &limit::simulate),
+        outcomes::compare(1, OUTCOME_CALLS, &limit::outcome),
+        small::compare(STEP, &limit::simulate, &limit::outcome),
     ];
     let compared: u64 = parts.iter().map(|part| part.compared).sum();
     let differ: u64 = parts.iter().map(|part| part.differ).sum();
@@ -54,12 +55,20 @@ fn main() -> ExitCode {
     if !limit_is_right() {
         return ExitCode::FAILURE;
     }
-    if task == Task::Measure {
-        tables::by_size();
-        tables::by_crashes_borne();
-        tables::by_row();
-        tables::by_text_written();
-        tables::by_text_read();
+    if task == Task::Check {
+        return ExitCode::SUCCESS;
     }
-    ExitCode::SUCCESS
+    tables::by_size();
+    let slower = tables::by_outcome();
+    tables::by_crashes_borne();
+    tables::by_row();
+    tables::by_text_written();
+    tables::by_text_read();
+    match slower.as_slice() {
+        [] => ExitCode::SUCCESS,
+        sizes => {
+            println!("\nthe outcome is not faster than the whole run at n = {sizes:?}");
+            ExitCode::FAILURE
+        }
+    }
 }

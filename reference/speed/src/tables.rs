@@ -5,6 +5,7 @@ use std::iter::successors;
 
 use fcwfa::{bytes, LONGEST_WRITTEN};
 use matching::members::State;
+use matching::outcomes::{self, Tell};
 use matching::proved;
 use matching::reads::{self, Read, Tables};
 use matching::tables::{by_reference, Simulate};
@@ -61,6 +62,48 @@ pub fn by_size() {
         );
         before = Some(proved);
     }
+}
+
+/// Takes the outcome of every schedule once.
+fn tell_all(schedules: &[Schedule], tell: Tell) {
+    let mut lent = [0; 2];
+    for schedule in schedules {
+        let answer = tell(black_box(schedule), &mut lent);
+        black_box(answer).expect("the schedule is accepted");
+        black_box(&lent);
+    }
+}
+
+/// The outcome beside the whole run, over the same schedules of each size; gives the sizes at which it is not faster.
+pub fn by_outcome() -> Vec<usize> {
+    println!();
+    println!(
+        "the outcome, over the full spread of schedules, and the proved whole run beside it (ns)"
+    );
+    println!("   n   proved  whole run  reference    limit  whole run/proved  reference/proved  proved/limit");
+    let mut slower = Vec::new();
+    for n in sizes() {
+        let schedules = spread(n);
+        let [proved, whole, reference, limit] = fastest(
+            schedules.len(),
+            [
+                &mut || tell_all(&schedules, &proved::outcome),
+                &mut || run_all(&schedules, &proved::simulate),
+                &mut || tell_all(&schedules, &outcomes::by_reference),
+                &mut || tell_all(&schedules, &limit::outcome),
+            ],
+        );
+        println!(
+            "{n:4} {proved:8.0} {whole:10.0} {reference:10.0} {limit:8.0} {:17.2} {:17.2} {:13.2}",
+            whole / proved,
+            reference / proved,
+            proved / limit,
+        );
+        if proved >= whole {
+            slower.push(n);
+        }
+    }
+    slower
 }
 
 /// The largest cluster, which stops after round 3, set up to bear more and more crashes: more rounds are allowed, and none is played.

@@ -24,7 +24,7 @@ pub struct Kind {
 
 /// What a comparison found.
 #[derive(Clone, Debug, Default)]
-pub struct Outcome {
+pub struct Findings {
     /// How many answers were compared.
     pub compared: u64,
     /// How many of them differ.
@@ -50,12 +50,12 @@ pub struct Outcome {
     pub lengths: BTreeSet<usize>,
 }
 
-impl Outcome {
+impl Findings {
     /// Nothing compared yet; the cases are of so many kinds.
-    pub fn of_kinds(kinds: usize) -> Outcome {
-        Outcome {
+    pub fn of_kinds(kinds: usize) -> Findings {
+        Findings {
             kinds: vec![Kind::default(); kinds],
-            ..Outcome::default()
+            ..Findings::default()
         }
     }
 
@@ -95,7 +95,7 @@ impl Outcome {
     }
 
     /// Adds what another thread found on other cases of the same kinds.
-    fn add(&mut self, other: Outcome) {
+    fn add(&mut self, other: Findings) {
         self.compared += other.compared;
         self.differ += other.differ;
         self.demands += other.demands;
@@ -124,15 +124,15 @@ impl Outcome {
 }
 
 /// Compares the cases 0 to count - 1, shared among threads; what is found doesn't depend on the sharing.
-pub fn share(count: u64, kinds: usize, compare: impl Fn(&mut Outcome, u64) + Sync) -> Outcome {
+pub fn share(count: u64, kinds: usize, compare: impl Fn(&mut Findings, u64) + Sync) -> Findings {
     let of_thread = |first: u64| {
-        let mut outcome = Outcome::of_kinds(kinds);
+        let mut findings = Findings::of_kinds(kinds);
         for case in (first..count).step_by(THREADS as usize) {
-            compare(&mut outcome, case);
+            compare(&mut findings, case);
         }
-        outcome
+        findings
     };
-    let mut whole = Outcome::of_kinds(kinds);
+    let mut whole = Findings::of_kinds(kinds);
     thread::scope(|scope| {
         let work = &of_thread;
         let threads: Vec<_> = (0..THREADS)
