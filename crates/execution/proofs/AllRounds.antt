@@ -18,6 +18,7 @@ use Rattle.laws.proofs.Overwritten.{over-at, over-past, over-long, over-so, ove
 use Rattle.member.specs.declared.Member.{Member}
 use Rattle.sets.specs.Largest.{largest, fitting}
 use Rattle.sets.specs.Tables.{padded}
+use Rattle.sets.proofs.Theorem.{table-facts}
 use Rattle.schedule.specs.Schedule.{Schedule, crashOf, reachOf}
 use Rattle.run.specs.Protocol.{Protocol, nobody, byCalls}
 use Rattle.run.specs.Run.{delivered, heardFrom, stateAt, codeSaid, codeHeard, rowOf, stateAfter, nextState, statesAfter, after}
@@ -70,9 +71,13 @@ module _ (P : Protocol) (s : Schedule) where
       says-same : (j : ℕ) → j < s .n → codeSaid P members j ≡ codeSaid P (statesAfter P s r) j
       says-same j l = ap (P .says) (state-at j l)
 
-      -- the codes are what the members say, and there are as many as the largest cluster has
+      -- the codes are what the members say
       pub said-at : (j : ℕ) → j < fitting (s .n) → getD codes j 0 ≡ codeSaid P members j
       said-at = code-at (fitting (s .n)) (codeSaid P members) (h .said)
+
+      -- and there are as many as the largest cluster has
+      pub codes-long : length codes ≡ largest
+      codes-long = ap (λ (l : List ℕ). length l) (h .said) ∙ table-facts (fitting (s .n)) (codeSaid P members) .long (omega arith)
 
       row-same : (i : ℕ) → tabulate (s .n) (heardFrom (s .crashes) (s .reaches) (suc r) (codeSaid P members) i) ≡ rowOf P s (suc r) (statesAfter P s r) i
       unfolding rowOf codeHeard

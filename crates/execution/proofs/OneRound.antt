@@ -55,6 +55,14 @@ pub said-of : (P : Protocol) (n : ℕ) (state : ℕ → Member) {others members 
     → Overwritten n (λ k. P .says (state k)) before codes → Overwritten n (codeSaid P members) before codes
 said-of P n state h said = over-so said (λ k l. sym (ap (P .says) (over-at h k nobody l)))
 
+-- of the loop in which the members hear their rows, at its end
+pub all-said : (P : Protocol) (n r : ℕ) (crashes : List ℕ) (grid : List (List ℕ)) {size i : ℕ} {members next : List Member} {before codes : List ℕ} → size ≡ fitting n
+    → i ≡ size → HearsRows P (fitting n) r members crashes grid next
+    → Overwritten i (λ k. P .says (stateAfter P r (getD crashes k 0) (stateAt members k) (take size (getD grid k [])))) before codes
+    → Overwritten (fitting n) (codeSaid P next) before codes
+all-said P n r crashes grid {members = members} same end h said =
+    said-of P (fitting n) (λ k. stateAfter P r (getD crashes k 0) (stateAt members k) (take (fitting n) (getD grid k []))) h (rw (← same) (over-all said end))
+
 -- and stand as such in a table with zeros after them, if it held zeros before
 pub said-start : (n : ℕ) {f : ℕ → ℕ} {before codes : List ℕ} → before ≡ replicate largest 0 → Overwritten n f before codes → codes ≡ padded n f
 said-start n {f} e h = h .is ∙ ap (λ (rest : List ℕ). tabulate n f ++ drop n rest) e

@@ -69,54 +69,35 @@ fn next_turn(round: u8, crash: u8, m: Member, code: u8, row: &[u8]) -> Turn
     heard(m, code, row)
 }
 
-// The states after a round whose rows are the first n codes of the rows of the grid. `codes` has what the
-// members say in it, and gets what they say in the next: so no member is asked what it says but where a row
-// has changed it.
-fn hear_rows(
-    n: usize,
-    round: u8,
-    members: [Member; WIDTH],
-    crashes: &[u8],
-    grid: &[[u8; WIDTH]],
-    codes: &mut [u8],
-) -> [Member; WIDTH]
-    requires room { ⌜ (Largest·fitting n ≤ length (now grid)) × (Largest·fitting n ≤ length (now codes)) ⌝ }
-    requires said_before { ⌜ ((i : ℕ) → i < Largest·fitting n → getD (now codes) i 0 ≡ codeSaid calls members i) ⌝ }
-    ensures heard { λ r. ⌜ HearsRows calls (Largest·fitting n) round members (now (crashes .entry)) (now (grid .entry)) r ⌝ }
-    ensures said { λ r. ⌜ Overwritten (Largest·fitting n) (codeSaid calls r) (now (codes .entry)) (now (codes .exit)) ⌝ }
-{
-    let size = fitting(n);
-    let mut next = members;
-    let mut i: usize = 0;
-    while i < size {
-        let m = next[i];
-        let row = &grid[i][..];
-        let code = codes[i];
-        let turn = next_turn(round, byte_at(crashes, i), m, code, &row[..size]);
-        let state = turn.state;
-        next[i] = state;
-        codes[i] = turn.code;
-        i += 1;
-    }
-    next
-}
-
 // One round of all members: their rows are formed in the grid from the codes that they say, and each that
-// completes the round hears its own. `codes` gets what they say in the next round. Nothing is counted here.
+// completes the round hears its own. `codes` gets what they say in the next round: so no member is asked what it
+// says but where a row has changed it. Nothing is counted here.
 pub fn play_round(
     n: usize,
     round: u8,
-    members: [Member; WIDTH],
+    mut members: [Member; WIDTH],
     codes: &mut [u8; WIDTH],
     crashes: &[u8],
     reaches: &[Set],
     grid: &mut [[u8; WIDTH]],
 ) -> [Member; WIDTH]
-    requires room { ⌜ Largest·fitting n ≤ length (now grid) ⌝ }
+    requires room { ⌜ (Largest·fitting n ≤ length (now grid)) × (Largest·fitting n ≤ length (now codes)) ⌝ }
     requires said_before { ⌜ ((i : ℕ) → i < Largest·fitting n → getD (now codes) i 0 ≡ codeSaid calls members i) ⌝ }
     ensures played { λ r. ⌜ PlaysRound calls (Largest·fitting n) round members (now (crashes .entry)) (now (reaches .entry)) r ⌝ }
     ensures said { λ r. ⌜ Overwritten (Largest·fitting n) (codeSaid calls r) (now (codes .entry)) (now (codes .exit)) ⌝ }
 {
+    let size = fitting(n);
     deliver(n, round, codes, crashes, reaches, &mut grid[..]);
-    hear_rows(n, round, members, crashes, &grid[..], &mut codes[..])
+    let mut i: usize = 0;
+    while i < size {
+        let m = members[i];
+        let row = &grid[i][..];
+        let code = codes[i];
+        let turn = next_turn(round, byte_at(crashes, i), m, code, &row[..size]);
+        let state = turn.state;
+        members[i] = state;
+        codes[i] = turn.code;
+        i += 1;
+    }
+    members
 }

@@ -13,7 +13,7 @@ use Rattle.schedule.specs.Questions.{question, Accepted}
 use Rattle.schedule.proofs.Accepted.{question-accepted}
 use Rattle.run.proofs.Theorem.{accepted-run}
 use Rattle.execution.specs.Calls.{calls}
-use Rattle.execution.proofs.AllRounds.{Between, starts, said-at, goes-on}
+use Rattle.execution.proofs.AllRounds.{Between, starts, said-at, codes-long, goes-on}
 use Rattle.execution.proofs.Searching.{Searched, nothing-searched, round-left, searches-on, place-low, first-decides}
 use Rattle.execution.proofs.decision.decide_on.Statement.{statement}
 use Rattle.execution.proofs.decision.decide_on.Tie as tie
@@ -72,7 +72,8 @@ play-round-requires c κs =
     let ok = question-accepted s largest true (c .before .before .before .before .before .before .before .before .before .before .before .pre .0) in
     let at = c .before .before .before .loop in
     let room = at .inv .0 .room in
-    (omega arith, said-at calls s (ok .n-high) (at .played) (at .inv .0))
+    let long = codes-long calls s (ok .n-high) (at .played) (at .inv .0) in
+    ((omega arith, omega arith), said-at calls s (ok .n-high) (at .played) (at .inv .0))
 
 lowest-decided-requires : tie.Need-lowest-decided-requires Inv-loop μ-loop
 lowest-decided-requires c κs =

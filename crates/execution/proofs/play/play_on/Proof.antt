@@ -13,7 +13,7 @@ use Rattle.schedule.proofs.Accepted.{question-accepted}
 use Rattle.run.specs.Protocol.{fcwfa}
 use Rattle.run.proofs.Theorem.{accepted-run}
 use Rattle.execution.specs.Calls.{calls}
-use Rattle.execution.proofs.AllRounds.{Between, Counted, nothing-counted, starts, said-at, goes-on, sent-in, counts-on, ends-last, ends-silent}
+use Rattle.execution.proofs.AllRounds.{Between, Counted, nothing-counted, starts, said-at, codes-long, goes-on, sent-in, counts-on, ends-last, ends-silent}
 use Rattle.execution.proofs.play.play_on.Statement.{statement}
 use Rattle.execution.proofs.play.play_on.Tie as tie
 
@@ -84,7 +84,8 @@ play-round-requires c κs =
     let ok = question-accepted s largest true (c .before .before .before .before .before .before .before .before .before .before .before .before .before .before .pre .0) in
     let at = c .before .before .before .before .before .before .loop in
     let room = at .inv .0 .room in
-    (omega arith, said-at calls s (ok .n-high) (at .played) (at .inv .0))
+    let long = codes-long calls s (ok .n-high) (at .played) (at .inv .0) in
+    ((omega arith, omega arith), said-at calls s (ok .n-high) (at .played) (at .inv .0))
 
 add-messages : tie.Need-add-messages Inv-loop μ-loop
 add-messages c =
