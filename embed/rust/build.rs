@@ -5,7 +5,12 @@ use std::path::{Path, PathBuf};
 use std::process::exit;
 
 /// The libraries, each by the name that `rt staticlib` takes.
-const LIBRARIES: [&str; 3] = ["fcwfa_member", "fcwfa_simulator", "fcwfa_texts"];
+const LIBRARIES: [&str; 4] = [
+    "fcwfa_member",
+    "fcwfa_simulator",
+    "fcwfa_outcome",
+    "fcwfa_texts",
+];
 
 fn main() {
     let named = var_os("FCWFA_LIB_DIR")

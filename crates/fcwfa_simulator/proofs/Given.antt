@@ -2,17 +2,13 @@
 use mathlib.Core.Path.{_≡_, sym, subst}
 use Prim.Native.Nat.{ℕ}
 use mathlib.Core.List.{List}
-use lib.ListN.{getD}
 use Rattle.laws.specs.Answer.{accepted}
 use Rattle.schedule.specs.Schedule.{Schedule}
 use Rattle.run.specs.Given.{GivenPromises}
-use Rattle.run.specs.Outcome.{OutcomePromises}
 use Rattle.simulator.specs.declared.Counts.{Counts}
 use Rattle.simulator.specs.declared.Simulated.{Simulated}
-use Rattle.simulator.specs.declared.Outcome.{Outcome}
-use Rattle.simulator.specs.declared.Concluded.{Concluded}
-use Rattle.simulator.specs.Answers.{simulatedIs, givenBy, AnswersKeepPromises, concludedIs, AnswerIsOutcome}
-use Rattle.fcwfa_simulator.specs.Numbers.{countsNumbers, countsIn, NumbersKeepPromises, outcomeNumbers, NumbersAreOutcome}
+use Rattle.simulator.specs.Answers.{simulatedIs, givenBy, AnswersKeepPromises}
+use Rattle.fcwfa_simulator.specs.Numbers.{countsNumbers, countsIn, NumbersKeepPromises}
 
 pub completed-keeps : (s : Schedule) {r : Simulated} {counts : Counts} {numbers decisions rounds : List ℕ} → AnswersKeepPromises s r decisions rounds
     → simulatedIs r ≡ accepted counts → numbers ≡ countsNumbers counts → NumbersKeepPromises s 0 numbers decisions rounds
@@ -24,11 +20,3 @@ completed-keeps s {counts = counts} {decisions = decisions} {rounds = rounds} h 
 
 pub refused-keeps : (s : Schedule) {number : ℕ} {numbers decisions rounds : List ℕ} → (number ≡ 0 → ⊥) → NumbersKeepPromises s number numbers decisions rounds
 refused-keeps s refuses = record { kept = λ e. absurd (refuses e) }
-
-pub decided-keeps : (s : Schedule) {r : Concluded} {outcome : Outcome} {numbers : List ℕ} → AnswerIsOutcome s r → concludedIs r ≡ accepted outcome
-    → numbers ≡ outcomeNumbers outcome → NumbersAreOutcome s 0 numbers
-decided-keeps s {outcome = outcome} h e given =
-    record { kept = λ _. subst (λ (numbers : List ℕ). OutcomePromises s (getD numbers 0 0) (getD numbers 1 0)) (sym given) (h .kept outcome e) }
-
-pub refused-outcome : (s : Schedule) {number : ℕ} {numbers : List ℕ} → (number ≡ 0 → ⊥) → NumbersAreOutcome s number numbers
-refused-outcome s refuses = record { kept = λ e. absurd (refuses e) }

@@ -1,22 +1,17 @@
--- What the simulator gives as numbers: 0 or the number of a refusal, four counts, and two tables; what an outcome gives, and what a count of crashes: two
--- numbers each.
+-- What the simulator gives as numbers: 0 or the number of a refusal, four counts, and two tables; and what a count of crashes gives: two numbers.
 use Prim.Native.Nat.{ℕ}
 use mathlib.Core.Path.{_≡_}
 use mathlib.Core.List.{List, [], _∷_}
-use mathlib.Core.Bool.{true}
 use lib.ListN.{length, getD}
 use Rattle.laws.specs.Answer.{placeAfter}
 use Rattle.sets.specs.Largest.{largest}
 use Rattle.schedule.specs.Schedule.{Schedule}
-use Rattle.schedule.specs.Questions.{question}
 use Rattle.schedule.specs.Counting.{lookedAt, crashesCounted}
 use Rattle.run.specs.Protocol.{fcwfa}
 use Rattle.run.specs.Report.{report}
 use Rattle.run.specs.Given.{GivenPromises}
-use Rattle.run.specs.Outcome.{OutcomePromises}
 use Rattle.simulator.specs.declared.Counts.{Counts}
-use Rattle.simulator.specs.declared.Outcome.{Outcome}
-use Rattle.simulator.specs.Answers.{countsOf, simulateQuestion, decisionsAfter, roundsAfter, givenBy, outcomeOf}
+use Rattle.simulator.specs.Answers.{countsOf, simulateQuestion, decisionsAfter, roundsAfter, givenBy}
 
 -- the counts as four numbers, "f; last ..; first ..; messages", in the order of the report's heading: f, first, last, messages
 abbrev pub countsNumbers : Counts → List ℕ
@@ -46,25 +41,6 @@ pub record SimulatesNumbers (s : Schedule) (decisions rounds counts : List ℕ) 
   pub rounds-given : roundsNow ≡ roundsAfter fcwfa largest s decisions rounds
   pub counts-given : countsNow ≡ placeAfter (simulateQuestion largest s decisions rounds) (countsNumbers (countsOf (report fcwfa s))) counts
   pub promises : NumbersKeepPromises s number countsNow decisionsNow roundsNow
-
--- "answers that value and round": an outcome as two numbers
-abbrev pub outcomeNumbers : Outcome → List ℕ
-outcomeNumbers outcome = outcome .decision ∷ outcome .round ∷ []
-
--- What holds of them. Proved in proofs/Counts.antt: `outcome-numbers : OutcomeNumbers`.
-pub record OutcomeNumbers : Type 0 where
-  -- the value first: that of case D
-  pub in-order : outcomeNumbers (record { decision = 0; round = 3 }) ≡ 0 ∷ 3 ∷ []
-
--- What is promised of an outcome, of the numbers: wherever the call answers 0, with the two numbers after the call.
-pub record NumbersAreOutcome (s : Schedule) (number : ℕ) (outcome : List ℕ) : Type 0 where
-  pub kept : number ≡ 0 → OutcomePromises s (getD outcome 0 0) (getD outcome 1 0)
-
--- What the call promises of a schedule and the place for the outcome that it is lent: of the number that it answers, and of what stands in it after it.
-pub record ConcludesNumbers (s : Schedule) (outcome : List ℕ) (number : ℕ) (outcomeNow : List ℕ) : Type 0 where
-  pub number-is : number ≡ question s largest true
-  pub outcome-given : outcomeNow ≡ placeAfter (question s largest true) (outcomeNumbers (outcomeOf fcwfa s)) outcome
-  pub promises : NumbersAreOutcome s number outcomeNow
 
 -- "answer, beside the count, the number of the last process it looked at": of t and a table of crash rounds
 abbrev pub countedNumbers : ℕ → List ℕ → List ℕ

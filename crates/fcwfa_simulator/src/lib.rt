@@ -1,4 +1,4 @@
-// The simulator for programs in C and Rust: `simulate`, `conclude` and `crash_count` on numbers and tables.
+// The simulator for programs in C and Rust: `simulate` and `crash_count` on numbers and tables.
 //
 // Each call answers 0, or the number of the first question whose answer is no; then what it was lent is as
 // before. It takes any numbers and tables. A caller owes this alone: no pointer is NULL, also where its
@@ -6,9 +6,8 @@
 // overlaps with nothing else that the call is lent.
 ghost use mathlib.Core.Path.{_≡_};
 ghost use Rattle.schedule.specs.Schedule.{scheduleOf};
-ghost use Rattle.fcwfa_simulator.specs.Numbers.{countsNumbers, SimulatesNumbers, ConcludesNumbers, countedNumbers};
+ghost use Rattle.fcwfa_simulator.specs.Numbers.{countsNumbers, SimulatesNumbers, countedNumbers};
 use sets::Set;
-use simulator::Concluded;
 use simulator::Counts;
 use simulator::Simulated;
 
@@ -41,29 +40,6 @@ pub extern "C" fn fcwfa_simulate(
             0
         }
         Simulated::Refused(number) => number,
-    }
-}
-
-// Plays rounds of the schedule of these tables until one in which some process decides: `outcome` gets the
-// value that it decides, 0 or 1, and the round.
-#[no_mangle]
-pub extern "C" fn fcwfa_outcome(
-    n: usize,
-    t: usize,
-    votes: &[u8],
-    crashes: &[u8],
-    reaches: &[Set],
-    outcome: &mut [u8; 2],
-) -> u8
-    ensures concluded { λ r. ⌜ ConcludesNumbers (scheduleOf n t (now (votes .entry)) (now (crashes .entry)) (now (reaches .entry))) (now (outcome .entry)) r (now (outcome .exit)) ⌝ }
-{
-    let answer = simulator::conclude(n, t, votes, crashes, reaches);
-    match answer {
-        Concluded::Decided(found) => {
-            *outcome = [found.decision, found.round];
-            0
-        }
-        Concluded::Refused(number) => number,
     }
 }
 

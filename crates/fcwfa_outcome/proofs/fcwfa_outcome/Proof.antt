@@ -3,10 +3,10 @@ use mathlib.Core.Path.{refl, sym, ap, _∙_}
 use borrow.Author.Needs.{needs}
 use Rattle.laws.proofs.Answer.{refused-is, answer-given, answer-kept}
 use Rattle.simulator.specs.Answers.{concludedIs, outcomeAnswer}
-use Rattle.fcwfa_simulator.specs.Numbers.{outcomeNumbers}
-use Rattle.fcwfa_simulator.proofs.Given.{decided-keeps, refused-outcome}
-use Rattle.fcwfa_simulator.proofs.fcwfa_outcome.Statement.{statement}
-use Rattle.fcwfa_simulator.proofs.fcwfa_outcome.Tie as tie
+use Rattle.fcwfa_outcome.specs.Numbers.{outcomeNumbers}
+use Rattle.fcwfa_outcome.proofs.Given.{decided-keeps, refused-outcome}
+use Rattle.fcwfa_outcome.proofs.fcwfa_outcome.Statement.{statement}
+use Rattle.fcwfa_outcome.proofs.fcwfa_outcome.Tie as tie
 
 conclude-requires : tie.Need-conclude-requires
 conclude-requires c κs = search needs
