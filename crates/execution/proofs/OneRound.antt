@@ -16,7 +16,12 @@ use Rattle.sets.proofs.Theorem.{table-facts}
 use Rattle.run.specs.Protocol.{Protocol, nobody}
 use Rattle.run.specs.Run.{delivered, heardFrom, stateAt, codeSaid, stateAfter}
 use Rattle.delivery.specs.Delivery.{Delivers}
-use Rattle.execution.specs.Rounds.{noMembers, Opens, HearsRows, PlaysRound}
+use Rattle.execution.specs.Rounds.{noMembers, Opens, PlaysRound}
+
+-- each member that completes the round hears its row in a grid, and the places from n on are as they were
+abbrev pub HearsRows : Protocol → ℕ → ℕ → List Member → List ℕ → List (List ℕ) → List Member → Type 0
+HearsRows P n round members crashes grid next =
+    Overwritten n (λ i. stateAfter P round (getD crashes i 0) (stateAt members i) (take n (getD grid i []))) members next
 
 -- what a padded table of codes holds
 pub code-at : (n : ℕ) (f : ℕ → ℕ) {codes : List ℕ} → codes ≡ padded n f → (j : ℕ) → j < n → getD codes j 0 ≡ f j

@@ -1,7 +1,7 @@
 -- One round of all members, which stand side by side in an array as long as the largest cluster.
 use Prim.Native.Nat.{ℕ, _+_}
-use mathlib.Core.List.{List, []}
-use lib.ListN.{getD, take, replicate}
+use mathlib.Core.List.{List}
+use lib.ListN.{getD, replicate}
 use Rattle.laws.specs.Below.{tabulate}
 use Rattle.laws.specs.Filled.{Overwritten}
 use Rattle.sets.specs.Largest.{largest}
@@ -18,11 +18,6 @@ module _ (P : Protocol) (n : ℕ) where
   -- "every member is opened with n, t, its own number and its vote": the first n places hold them, and the others nobody
   abbrev pub Opens : ℕ → List ℕ → List Member → Type 0
   Opens t votes members = Overwritten n (λ i. P .opening n t (i + 1) (getD votes i 0)) noMembers members
-
-  -- a round whose rows stand in a grid: each member that completes it hears its row, and the places from n on are as they were
-  abbrev pub HearsRows : ℕ → List Member → List ℕ → List (List ℕ) → List Member → Type 0
-  HearsRows round members crashes grid next =
-      Overwritten n (λ i. stateAfter P round (getD crashes i 0) (stateAt members i) (take n (getD grid i []))) members next
 
   -- a round: each member says its code, and each that completes the round hears its row of these; the places from n on are as they were
   abbrev pub PlaysRound : ℕ → List Member → List ℕ → List ℕ → List Member → Type 0

@@ -8,7 +8,7 @@ ghost use Rattle.laws.specs.Filled.{Overwritten};
 ghost use Rattle.sets.specs.Largest.{fitting as Largest·fitting};
 ghost use Rattle.run.specs.Run.{codeSaid, stateAfter};
 ghost use Rattle.execution.specs.Calls.{calls};
-ghost use Rattle.execution.specs.Rounds.{noMembers, Opens, HearsRows, PlaysRound};
+ghost use Rattle.execution.specs.Rounds.{noMembers, Opens, PlaysRound};
 use crate::calls::Turn;
 use crate::calls::heard;
 use crate::calls::is_stopped;

@@ -1,29 +1,28 @@
 -- The outcome: some process has decided at the end of the run, so there is a first round after which one has; whoever is decided then decided in it, and
 -- keeps its decision to the end, where all agree. Assumes nothing.
-use mathlib.Core.Path.{_≡_, refl, sym, ap, _∙_}
+use mathlib.Core.Path.{_≡_, sym, ap, _∙_}
 use mathlib.Core.Logic.{_≢_, inl, inr}
 use mathlib.Core.List.{List}
 use mathlib.Core.Bool.{Bool, true, false, not, true≢false}
 use Prim.Native.Nat.{ℕ, zero, suc, _+_, _-_, _≤_, _<_}
 use native.Mathlib.Nat.{eq-zero-or-pos}
-use native.Mathlib.Numerals.{add-one}
 use native.Mathlib.Omega.{arith}
 use lib.Dec.{eqb, ltb}
 use borrow.Author.Tests.{eq-eqb, ne-eqb, lt-ltb, ltb-true}
-use Rattle.laws.proofs.Test.{true-or-false, cond-false}
+use Rattle.laws.proofs.Test.{cond-false}
 use Rattle.laws.proofs.Counting.{split}
 use Rattle.laws.proofs.Least.{least-is, least-before, least-passes, least-high, least-low, least-same}
 use Rattle.member.specs.declared.Member.{Member}
 use Rattle.schedule.specs.Schedule.{Schedule}
 use Rattle.schedule.specs.Questions.{Rules}
 use Rattle.run.specs.Protocol.{Protocol, fcwfa}
-use Rattle.run.specs.Run.{statesAfter, after, final}
+use Rattle.run.specs.Run.{statesAfter, after}
 use Rattle.run.specs.Report.{givenRound, roundOf, decisionOf, report}
 use Rattle.run.specs.Demand.{Decides}
 use Rattle.run.specs.Outcome.{lowestDecided, someDecided, outcomeRound, outcomePlace, outcomeDecision, OutcomePromises}
 use Rattle.run.proofs.States.{range, made-at, between, bits}
-use Rattle.run.proofs.RunWorld.{state-is}
-use Rattle.run.proofs.FcwfaRun.{runWorld, laws}
+use Rattle.run.proofs.Votes.{none-in-1}
+use Rattle.run.proofs.FcwfaRun.{runWorld, laws, rules}
 use Rattle.run.proofs.Demand.{end-is, lasts, demand-3}
 use Rattle.run.proofs.Reported.{rounds-read}
 use Rattle.run.proofs.Deciders.{some-decides}
@@ -168,9 +167,22 @@ module _ (s : Schedule) (ok : Rules s) where
         decider = place;
         decides = d;
         commit-or-abort = let b = bits (runWorld s) (laws s ok) r high place place-low in let v = value-is in omega arith;
+        from-round-2 = from-round-2;
         in-the-run = omega arith;
       }
     where
+      not-in-1 : (q : ℕ) → q ≡ 1 → after fcwfa s q place .decided ≡ q → ⊥
+      not-in-1 q e d =
+          let now : after fcwfa s 1 place .decided ≡ 1 = rw e at d in
+          let z = none-in-1 (runWorld s) (laws s ok) (rules s ok) place place-low in
+          omega arith
+
+      from-round-2 : 2 ≤ r
+      from-round-2 =
+          let low = round-positive fcwfa s in
+          let d = decided-in (r - 1) (omega arith) in
+          elim (split 2 r) [ inl l ↦ l | inr l ↦ absurd (not-in-1 r (omega arith) d) ]
+
       none-earlier : (i x q : ℕ) → Decides fcwfa s i x q → r ≤ q
       none-earlier i x q h =
           let l = h .process in

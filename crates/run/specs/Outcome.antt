@@ -48,6 +48,7 @@ pub record OutcomePromises (s : Schedule) (v r : ℕ) : Type 0 where
   -- some process decides it in this round, so there always is an outcome
   pub decider : ℕ
   pub decides : Decides fcwfa s decider v r
-  -- it is commit or abort, in a round of the run
+  -- it is commit or abort, in a round of the run; nobody decides in round 1
   pub commit-or-abort : v ≤ 1
+  pub from-round-2 : 2 ≤ r
   pub in-the-run : r ≤ s .t + 1

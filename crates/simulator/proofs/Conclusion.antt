@@ -1,7 +1,7 @@
 -- The call that plays rounds until the outcome is known. A refused one gives no outcome, and an accepted one the decision of the process that was found and
 -- the round, which keep the promises. Assumes nothing.
-use mathlib.Core.Path.{_≡_, sym, ap, ap₂, _∙_, subst}
-use mathlib.Core.Bool.{Bool, true, cond}
+use mathlib.Core.Path.{_≡_, sym, ap, _∙_, subst}
+use mathlib.Core.Bool.{true, cond}
 use Prim.Native.Nat.{ℕ}
 use lib.Dec.{eqb}
 use Rattle.laws.specs.Answer.{accepted, refused}
@@ -10,7 +10,7 @@ use Rattle.member.specs.declared.Member.{Member}
 use Rattle.sets.specs.Largest.{largest}
 use Rattle.schedule.specs.Schedule.{Schedule}
 use Rattle.schedule.specs.Questions.{question}
-use Rattle.run.specs.Protocol.{Protocol, fcwfa, nobody}
+use Rattle.run.specs.Protocol.{fcwfa, nobody}
 use Rattle.run.specs.Report.{decisionOf}
 use Rattle.run.specs.Outcome.{outcomeRound, outcomeMember, outcomeDecision, OutcomePromises}
 use Rattle.run.proofs.Theorem.{accepted-run}
@@ -18,7 +18,7 @@ use Rattle.execution.specs.declared.FirstDecision.{FirstDecision}
 use Rattle.execution.specs.Decision.{firstDecisionOf}
 use Rattle.simulator.specs.declared.Outcome.{Outcome}
 use Rattle.simulator.specs.declared.Concluded.the-variants as Concluded
-use Rattle.simulator.specs.Answers.{concludedIs, outcomeOf, outcomeAnswer, AnswerIsOutcome, Concludes}
+use Rattle.simulator.specs.Answers.{outcomeOf, outcomeAnswer, Concludes}
 
 -- A call for which the rounds leave `first`.
 module _ (s : Schedule) {first : FirstDecision} (left : first ≡ firstDecisionOf fcwfa largest s) where

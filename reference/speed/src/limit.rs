@@ -27,6 +27,7 @@ fn take_lowest(set: &mut Set) -> Option<usize> {
 }
 
 /// The number of the first question whose answer is no, or 0, for a call that takes two answer tables of these lengths.
+#[inline(always)]
 fn question(s: &Schedule, decisions: usize, rounds: usize) -> u8 {
     if !SIZES.contains(&s.n) {
         return 1;
@@ -94,6 +95,7 @@ fn decides(s: &Schedule, r: usize, estimates: Set, zeros: Set) -> bool {
 }
 
 impl Run {
+    #[inline(always)]
     fn opened(s: &Schedule) -> Run {
         let votes = s.votes.iter().enumerate();
         Run {
@@ -111,7 +113,8 @@ impl Run {
         self.alive & (!self.decided | self.told)
     }
 
-    /// One round, in which these processes crash.
+    /// One round, in which these processes crash. It is compiled into each of the two calls, as if there were only one.
+    #[inline(always)]
     fn play(&mut self, s: &Schedule, r: usize, crashing: Set, rounds: &mut [u8]) {
         let speakers = self.speakers();
         let completing = self.alive & !crashing;
@@ -182,6 +185,7 @@ impl Run {
 }
 
 /// Who crashes in each round, with 0 for never; t + 1 is at most the largest n.
+#[inline(always)]
 fn crashing(s: &Schedule) -> [Set; LARGEST + 1] {
     let mut crashing = [0; LARGEST + 1];
     for (place, &crash) in s.crashes.iter().enumerate() {

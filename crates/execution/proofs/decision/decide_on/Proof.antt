@@ -2,14 +2,13 @@
 -- nothing.
 use Prim.Native.Nat.{_+_, _-_}
 use mathlib.Core.Bool.{true}
-use mathlib.Core.Path.{_≡_, refl, sym}
+use mathlib.Core.Path.{_≡_, refl}
 use native.Mathlib.Omega.{arith}
 use borrow.Author.Needs.{needs}
 use denote.Ref.{now}
 use lib.ListN.{length}
 use Rattle.sets.specs.Largest.{largest}
 use Rattle.schedule.specs.Schedule.{scheduleOf}
-use Rattle.schedule.specs.Questions.{question, Accepted}
 use Rattle.schedule.proofs.Accepted.{question-accepted}
 use Rattle.run.proofs.Theorem.{accepted-run}
 use Rattle.execution.specs.Calls.{calls}

@@ -10,7 +10,7 @@ use lib.ListN.{length, getD, take}
 use lib.Seq.{length-take-le}
 use Rattle.sets.specs.Largest.{largest, fitting}
 use Rattle.laws.specs.Filled.{Overwritten}
-use Rattle.laws.proofs.Overwritten.{over-start, over-more, over-past, over-long, over-all}
+use Rattle.laws.proofs.Overwritten.{over-start, over-more, over-past}
 use Rattle.member.specs.declared.Member.{Member}
 use Rattle.run.specs.Protocol.{nobody}
 use Rattle.run.specs.Run.{stateAt, stateAfter}
