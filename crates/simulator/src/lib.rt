@@ -77,9 +77,9 @@ pub fn conclude(n: usize, t: usize, votes: &[u8], crashes: &[u8], reaches: &[Set
     ensures concluded { λ r. ⌜ Concludes (scheduleOf n t (now (votes .entry)) (now (crashes .entry)) (now (reaches .entry))) r ⌝ }
 {
     let first = play_to_decision(n, t, votes, crashes, reaches);
-    let question = first.question;
-    if question != 0 {
-        return Concluded::Refused(question);
+    let refusal = first.question;
+    if refusal != 0 {
+        return Concluded::Refused(refusal);
     }
     let decider = first.member;
     Concluded::Decided(Outcome {
