@@ -1,8 +1,8 @@
 /*
  * One process of FCWFA, the fast-commit, weakly fast-abort atomic commit
- * protocol, the simulator of a whole cluster, and the texts of its schedules:
- * the proved functions of libfcwfa_member.a, libfcwfa_simulator.a and
- * libfcwfa_texts.a (x86-64 Linux).
+ * protocol, the simulator of a whole cluster, the outcome alone, and the texts
+ * of schedules: the proved functions of libfcwfa_member.a,
+ * libfcwfa_simulator.a, libfcwfa_outcome.a and libfcwfa_texts.a (x86-64 Linux).
  *
  * Every function takes any numbers and any bytes. It returns 0 (FCWFA_OK) and
  * does its work, or the number of the first question whose answer is no (the
@@ -281,8 +281,8 @@ uint8_t fcwfa_write_schedule(size_t n, size_t t,
  * entries, for n is not known before. The first n entries of each get what the
  * text says, and those after them keep their contents; n and t are written to
  * `read`, and its third place is as it was. The tables can be passed on to
- * fcwfa_simulate and fcwfa_write_schedule, with n for their lengths, and
- * fcwfa_write_schedule makes the same text of them again.
+ * fcwfa_simulate, fcwfa_outcome and fcwfa_write_schedule, with n for their
+ * lengths, and fcwfa_write_schedule makes the same text of them again.
  * Refusals, in this order: 3 with line 0; 8 with line 0; then line by line 9,
  * followed on line 2 by 1, 2 and on the line of a process by 4, 5, 6; then 9
  * with line n + 4, if anything follows line n + 3; and last 7 with line n + 3.

@@ -61,9 +61,9 @@ pub fn deliver(
     }
 }
 
-// The messages of the round, of the codes that are said in it, which are few. A sender that completes the round
-// adds n - 1, a copy for each other process, and one that crashes in it the ones of its reach, each only if it
-// says something.
+// How many messages the round has, from the codes that are said in it. A sender that completes the round adds
+// n - 1, a copy for each other process, and one that crashes in it the ones of its reach, each only if it says
+// something.
 pub fn message_count(
     n: usize,
     round: u8,

@@ -85,7 +85,7 @@ module _ (s : Schedule) (ok : Rules s) where
           → round ≡ r → m ≡ stateAt members place → FirstDecides fcwfa s round m
       first-decides small own stand same e = record {
         in-round = same ∙ last-round;
-        decider =
+        member-is =
             e
             ∙ process-at fcwfa s small own (h .inside) stand place (place-low s h some)
             ∙ ap (stateAt (statesAfter fcwfa s r)) (h .found)
@@ -109,5 +109,5 @@ module _ (P : Protocol) (s : Schedule) {q : ℕ} (asked : q ≡ question s large
       λ i. record {
         question = (none ∙ sym passed) i;
         round = (d .in-round ∙ sym (place-given (question s largest true) (outcomeRound P s) 0 passed)) i;
-        member = (d .decider ∙ sym (place-given (question s largest true) (outcomeMember P s) nobody passed)) i;
+        member = (d .member-is ∙ sym (place-given (question s largest true) (outcomeMember P s) nobody passed)) i;
       }

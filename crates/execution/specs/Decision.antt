@@ -14,7 +14,7 @@ module _ (P : Protocol) where
   -- what is left of an accepted schedule
   pub record FirstDecides (s : Schedule) (round : ℕ) (m : Member) : Type 0 where
     pub in-round : round ≡ outcomeRound P s
-    pub decider : m ≡ outcomeMember P s
+    pub member-is : m ≡ outcomeMember P s
 
   -- The number of the first question whose answer is no, or 0, of a call without answer tables; the first round after which some process is decided, and
   -- the lowest-numbered member that is then. A refused schedule leaves round 0 and nobody. `limit` is the largest n that is accepted.

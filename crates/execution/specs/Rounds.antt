@@ -19,7 +19,8 @@ module _ (P : Protocol) (n : ℕ) where
   abbrev pub Opens : ℕ → List ℕ → List Member → Type 0
   Opens t votes members = Overwritten n (λ i. P .opening n t (i + 1) (getD votes i 0)) noMembers members
 
-  -- a round: each member says its code, and each that completes the round hears its row of these; the places from n on are as they were
+  -- a round: each member says its code, and each that completes the round and is not stopped hears its row of these; the places from n on are as they
+  -- were
   abbrev pub PlaysRound : ℕ → List Member → List ℕ → List ℕ → List Member → Type 0
   PlaysRound round members crashes reaches next =
       Overwritten n

@@ -72,10 +72,10 @@ fn decide_on(
         played += 1;
     }
     let decider = members[place];
-    let last = played as u8;
+    let ended = played as u8;
     FirstDecision {
         question: 0,
-        round: last,
+        round: ended,
         member: decider,
     }
 }

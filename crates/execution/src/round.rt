@@ -70,8 +70,8 @@ fn next_turn(round: u8, crash: u8, m: Member, code: u8, row: &[u8]) -> Turn
 }
 
 // One round of all members: their rows are formed in the grid from the codes that they say, and each that
-// completes the round hears its own. `codes` gets what they say in the next round: so no member is asked what it
-// says but where a row has changed it. Nothing is counted here.
+// completes the round and is not stopped hears its own. `codes` gets what they say in the next round: so no
+// member is asked what it says but where a row has changed it. Nothing is counted here.
 pub fn play_round(
     n: usize,
     round: u8,

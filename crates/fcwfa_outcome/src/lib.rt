@@ -5,8 +5,8 @@
 // 0, each is good for the number of entries that is said or given with it, and what is written overlaps with
 // nothing else that the call is lent.
 //
-// It stands in a library of its own, so that each of the two ways to play rounds is compiled around the one
-// function that plays a round.
+// It stands in a library of its own: where one library played rounds in two ways, the function that plays a round
+// would be built into neither, and both calls would be slower.
 ghost use Rattle.schedule.specs.Schedule.{scheduleOf};
 ghost use Rattle.fcwfa_outcome.specs.Numbers.{ConcludesNumbers};
 use sets::Set;

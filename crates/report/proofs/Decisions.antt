@@ -12,7 +12,7 @@ use Rattle.simulator.specs.declared.Counts.{Counts}
 use Rattle.simulator.specs.declared.Outcome.{Outcome}
 use Rattle.simulator.specs.Answers.{givenBy}
 use Rattle.text.specs.Output.{reportText, outcomeText}
-use Rattle.report.specs.Shown.{areDecisions, shown, shownOutcome}
+use Rattle.report.specs.Shown.{areDecisions, shown, writtenOutcome}
 
 -- a table passes the test where each of its entries does, both ways
 pub decisions-all : (decisions : List ℕ) → areDecisions decisions ≡ true → (i : ℕ) → i < length decisions → getD decisions i 0 ≤ 2
@@ -40,10 +40,10 @@ module _ (t : ℕ) (counts : Counts) (decisions rounds : List ℕ) where
   shown-none e h = rw (eq-eqb (length rounds) (length decisions) e, h)
 
 module _ (outcome : Outcome) where
-  pub shown-outcome : outcome .decision ≤ 2 → shownOutcome outcome ≡ outcomeText (outcome .decision) (outcome .round)
-  unfolding shownOutcome
-  shown-outcome l = rw (le-leb (outcome .decision) 2 l)
+  pub written-outcome : outcome .decision ≤ 2 → writtenOutcome outcome ≡ outcomeText (outcome .decision) (outcome .round)
+  unfolding writtenOutcome
+  written-outcome l = rw (le-leb (outcome .decision) 2 l)
 
-  pub no-outcome-shown : 2 < outcome .decision → [] ≡ shownOutcome outcome
-  unfolding shownOutcome
-  no-outcome-shown l = rw (lt-leb (outcome .decision) 2 l)
+  pub no-outcome-written : 2 < outcome .decision → [] ≡ writtenOutcome outcome
+  unfolding writtenOutcome
+  no-outcome-written l = rw (lt-leb (outcome .decision) 2 l)

@@ -22,5 +22,5 @@ shown t counts decisions rounds =
     []
 
 -- the two lines of an outcome; nothing, if it holds what is no decision
-unfoldable pub shownOutcome : Outcome → List ℕ
-shownOutcome outcome = cond (leb (outcome .decision) 2) (outcomeText (outcome .decision) (outcome .round)) []
+unfoldable pub writtenOutcome : Outcome → List ℕ
+writtenOutcome outcome = cond (leb (outcome .decision) 2) (outcomeText (outcome .decision) (outcome .round)) []

@@ -12,7 +12,7 @@ ghost use lib.ListN.{length};
 ghost use Rattle.simulator.specs.Answers.{givenBy};
 ghost use Rattle.text.specs.Output.{decisionLetter, decidedFields, decisionLine, decisionLines, countsLine, reportText, refusalText};
 ghost use Rattle.buffer.specs.Buffer.{Writes};
-ghost use Rattle.report.specs.Shown.{areDecisions, shown, shownOutcome};
+ghost use Rattle.report.specs.Shown.{areDecisions, shown, writtenOutcome};
 use buffer::put;
 use buffer::put_byte;
 use buffer::put_field;
@@ -138,7 +138,7 @@ pub fn put_report(
 
 // Writes the two lines of an outcome from place `at` on. What is no decision is not written.
 pub fn put_outcome(bytes: &mut [u8], at: usize, outcome: Outcome) -> usize
-    ensures written { λ r. ⌜ Writes (now (bytes .entry)) at (now (bytes .exit)) r (shownOutcome outcome) ⌝ }
+    ensures written { λ r. ⌜ Writes (now (bytes .entry)) at (now (bytes .exit)) r (writtenOutcome outcome) ⌝ }
 {
     let decision = outcome.decision;
     if decision > 2 {

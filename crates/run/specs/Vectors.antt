@@ -37,8 +37,8 @@ abbrev pub decidedIn : ℕ → Member
 decidedIn r = record { n = 4; t = 3; id = 1; round = 5; estimate = 1; decided = r; silent = 0 }
 
 -- the decision and the round of a schedule's outcome
-abbrev pub outcomeOf : Schedule → List ℕ
-outcomeOf s = outcomeDecision fcwfa s ∷ outcomeRound fcwfa s ∷ []
+abbrev pub outcomeIn : Schedule → List ℕ
+outcomeIn s = outcomeDecision fcwfa s ∷ outcomeRound fcwfa s ∷ []
 
 pub record RunVectors : Type 0 where
   -- B = f + 2 if f ≤ t − 2 and f + 1 otherwise: t = 3 with no crash to three, and t = 5 with no crash to five
@@ -71,13 +71,15 @@ pub record RunVectors : Type 0 where
       ≡ allZero ∷ four 0 1 9 0 ∷ four 0 1 11 0 ∷ four 0 1 11 0 ∷ []
   -- the lowest-numbered process that is decided: of two, in whichever rounds; the first; the last; and none
   pub lowest-decided : map (λ rounds. lowestDecided 4 (map decidedIn rounds)) (four 0 3 2 0 ∷ four 4 0 0 2 ∷ four 0 0 0 4 ∷ allZero ∷ []) ≡ 1 ∷ 0 ∷ 3 ∷ 4 ∷ []
-  -- the outcomes of cases A, B, D, E, F, G and K: the smallest decided round, and what is decided in it
-  pub outcomes : map outcomeOf
+  -- the outcomes of cases A, B, D, E, F, G and K: the smallest decided round, and what is decided in it; and where process 4 decides in round 2, and
+  -- process 3 in round 4
+  pub outcomes : map outcomeIn
       (fourVoting1 allZero allZero ∷ scheduleOf 4 3 (four 0 1 1 1) allZero allZero ∷ fourVoting1 (four 1 0 0 0) (four 2 0 0 0)
       ∷ fourVoting1 (four 1 3 0 2) (four 6 0 0 2) ∷ fourVoting1 (four 1 3 0 2) (four 6 4 0 2) ∷ fourVoting1 (four 1 0 0 2) (four 6 0 0 2)
-      ∷ fourVoting1 (four 1 1 1 0) allZero ∷ []) ≡ (1 ∷ 2 ∷ []) ∷ (0 ∷ 2 ∷ []) ∷ (0 ∷ 3 ∷ []) ∷ (1 ∷ 4 ∷ []) ∷ (0 ∷ 3 ∷ []) ∷ (0 ∷ 3 ∷ []) ∷ (0 ∷ 2 ∷ []) ∷ []
-  -- where all four crash in round 1, one more than t, nobody decides: 2 for none, and a round after the last, which is t + 1
-  pub no-outcome : outcomeOf (fourVoting1 (four 1 1 1 1) allZero) ≡ 2 ∷ 5 ∷ []
+      ∷ fourVoting1 (four 1 1 1 0) allZero ∷ fourVoting1 (four 2 2 0 3) (four 10 8 0 0) ∷ [])
+      ≡ (1 ∷ 2 ∷ []) ∷ (0 ∷ 2 ∷ []) ∷ (0 ∷ 3 ∷ []) ∷ (1 ∷ 4 ∷ []) ∷ (0 ∷ 3 ∷ []) ∷ (0 ∷ 3 ∷ []) ∷ (0 ∷ 2 ∷ []) ∷ (1 ∷ 2 ∷ []) ∷ []
+  -- where all four crash in round 1, one more than t, nobody decides: 2 for none, and t + 2 for the round
+  pub no-outcome : outcomeIn (fourVoting1 (four 1 1 1 1) allZero) ≡ 2 ∷ 5 ∷ []
   -- what the answers of calls come to: an opening with n = 3, and a member in a round past the last, which says nothing and keeps its state whatever it
   -- hears; and calls that are accepted
   pub refused-opening : map (λ n. byCalls largest fcwfa .opening n 3 1 1) (3 ∷ 4 ∷ []) ≡ nobody ∷ opening 4 3 1 1 ∷ []

@@ -14,7 +14,7 @@ use Rattle.run.specs.Report.{Report, report}
 use Rattle.run.specs.Outcome.{outcomeRound, outcomeDecision}
 use Rattle.text.specs.Reading.{longest, textAnswer}
 use Rattle.text.specs.Output.{reportText, outcomeText, refusalText, reportShown, outcomeShown, printed, outputOf}
-use Rattle.text.specs.Facts.{SaysTheSame, TextPromises, RefusalsSay, OutputPromises, OutcomeOutputPromises, PrintedKeepsPromises, TextLengths, AllReadBack}
+use Rattle.text.specs.Facts.{SaysTheSame, TextPromises, RefusalsSay, ReportOutputPromises, OutcomeOutputPromises, PrintedKeepsPromises, TextLengths, AllReadBack}
 use Rattle.text.proofs.Accepted.{accepted-schedule, line-bound, line-short, numbered, prints-promises, prints-outcome}
 use Rattle.text.proofs.Inverse.{written}
 use Rattle.text.proofs.ReadBack.{reads-back}
@@ -55,7 +55,7 @@ module _ (P : Protocol) (limit most : ℕ) where
   unfolding outputOf
   outcome-says text s e v r h = one-outcome (outcomeDecision P s) (outcomeRound P s) v r (sym (ap (printed (outcomeShown P) text) e) ∙ h)
 
-  pub outputs : OutputPromises P limit most
+  pub outputs : ReportOutputPromises P limit most
   outputs = record {
     says = printed-says;
     told-apart = λ text number k e m u b h. no-report number k (lineOf k text) m u b (sym (refusal-printed (reportShown P) limit most text number k e) ∙ h);

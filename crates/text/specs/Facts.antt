@@ -1,6 +1,6 @@
 -- What holds of reading and of what is printed. Proved in proofs/Theorem.antt, and assumes nothing:
 -- `accepted-texts : (limit most : ℕ) → limit ≤ 99 → TextPromises limit most`,
--- `outputs : (P : Protocol) (limit most : ℕ) → OutputPromises P limit most`,
+-- `outputs : (P : Protocol) (limit most : ℕ) → ReportOutputPromises P limit most`,
 -- `outcome-outputs : (P : Protocol) (limit most : ℕ) → OutcomeOutputPromises P limit most`,
 -- `printed-keeps-promises : (limit most : ℕ) → PrintedKeepsPromises limit most`.
 use Prim.Native.Nat.{ℕ, _+_, _≤_, _<_}
@@ -67,7 +67,7 @@ pub record RefusalsSay (shown : Schedule → List ℕ) (limit most : ℕ) : Type
       → (m j : ℕ) (line : List ℕ) → outputOf shown text limit most ≡ refusalText m j line → (number ≡ m) × (k ≡ j)
 
 -- What holds of what `bench` prints, under any protocol.
-pub record OutputPromises (P : Protocol) (limit most : ℕ) : Type 1 where
+pub record ReportOutputPromises (P : Protocol) (limit most : ℕ) : Type 1 where
   -- whatever report is read in what is printed for an accepted text, it says the same as that of the run of its schedule
   pub says : (text : List ℕ) (s : Schedule) → textAnswer text limit most ≡ accepted s
       → (m u : ℕ) (b : Report) → outputOf (reportShown P) text limit most ≡ reportText m u b → SaysTheSame (s .n) (s .t) (report P s) m u b

@@ -67,7 +67,7 @@ reportText n t given =
 abbrev pub outcomeHeading : List ℕ
 outcomeHeading = quoted "decision round\n"
 
--- what is printed of an outcome: a line of names and one of values
+-- what is printed of an outcome: "a line of names, then lines of values in that order"
 unfoldable pub outcomeText : ℕ → ℕ → List ℕ
 outcomeText decision round = outcomeHeading ++ decidedFields decision round
 

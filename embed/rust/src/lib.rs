@@ -1,8 +1,8 @@
 //! One process of FCWFA, the fast-commit, weakly fast-abort atomic commit protocol, the simulator of a whole cluster, and the texts of its
 //! schedules.
 //!
-//! The work is done by the proved functions of `libfcwfa_member.a`, `libfcwfa_simulator.a` and `libfcwfa_texts.a`; this crate only gives
-//! their numbers types and lends them slices. A call does its work, or answers a [`Refusal`] and leaves everything it was lent as it was.
+//! The work is done by the proved functions of `libfcwfa_member.a`, `libfcwfa_simulator.a`, `libfcwfa_outcome.a` and `libfcwfa_texts.a`;
+//! this crate only gives their numbers types and lends them slices. A call does its work, or answers a [`Refusal`] and leaves everything it was lent as it was.
 //! Every type says which numbers it stands for; they are those of `embed/fcwfa.h`. The module [`bytes`] has the same calls on the bare
 //! numbers.
 //!

@@ -130,8 +130,8 @@ array-copy-out-decider c =
     let low = place-low s (c .before .loop .inv .1) (c .loop-test .left) in
     omega arith
 
-cast-last : tie.Need-cast-last Inv-loop μ-loop
-cast-last c =
+cast-ended : tie.Need-cast-ended Inv-loop μ-loop
+cast-ended c =
     let a = c .before .before .before .before .before .before .before .before .before .before .args in
     let s = scheduleOf (a .n) (a .t) (now (a .votes)) (now (a .crashes)) (now (a .reaches)) in
     let ok = question-accepted s largest true (c .before .before .before .before .before .before .before .before .before .before .pre .0) in
@@ -173,6 +173,6 @@ decide-on-spec =
     loop-again
     mul-decider
     array-copy-out-decider
-    cast-last
+    cast-ended
     same-length
     returns)

@@ -10,7 +10,7 @@ use Rattle.schedule.specs.Schedule.{Schedule, scheduleOf}
 use Rattle.run.specs.Protocol.{fcwfa}
 use Rattle.simulator.specs.Answers.{concludedIs, outcomeOf}
 use Rattle.output.specs.Answers.{outputIs}
-use Rattle.report.proofs.Decisions.{shown-outcome}
+use Rattle.report.proofs.Decisions.{written-outcome}
 use Rattle.buffer.proofs.Written.{writes-same}
 use Rattle.output.proofs.Buffer.{written-output}
 use Rattle.output.proofs.Lengths.{outcome-short}
@@ -55,7 +55,7 @@ returns-2 c =
     let outcome = c .before .before .before .before .answer .given .0 .0 in
     let same = ap concludedIs (c .before .before .before .before .answer .given .1) in
     let promised = d .conclude .ensures .promises .kept outcome same .commit-or-abort in
-    let w = written-output _ _ _ _ (c .before .before .before .before .before .before .before .blank-output .ensures) (writes-same (shown-outcome outcome (omega arith)) (c .before .put-outcome .ensures)) (outcome-short _ _ (search needs)) in
+    let w = written-output _ _ _ _ (c .before .before .before .before .before .before .before .blank-output .ensures) (writes-same (written-outcome outcome (omega arith)) (c .before .put-outcome .ensures)) (outcome-short _ _ (search needs)) in
     (w .0 ∙ ap outputIs (print-outcome fcwfa (given d) outcome (sym same ∙ decided d)), w .1)
 
 pub concluded-spec : {M : Type 1} → statement M
