@@ -2,9 +2,9 @@
 //! schedules.
 //!
 //! The work is done by the proved functions of `libfcwfa_member.a`, `libfcwfa_simulator.a`, `libfcwfa_outcome.a` and `libfcwfa_texts.a`;
-//! this crate only gives their numbers types and lends them slices. A call does its work, or answers a [`Refusal`] and leaves everything it was lent as it was.
-//! Every type says which numbers it stands for; they are those of `embed/fcwfa.h`. The module [`bytes`] has the same calls on the bare
-//! numbers.
+//! this crate only gives their numbers types and lends them slices. A call does its work, or answers a [`Refusal`] and leaves everything it
+//! was lent as it was. Every type says which numbers it stands for; they are those of `embed/fcwfa.h`. The module [`bytes`] has the same calls
+//! on the bare numbers.
 //!
 //! [`Member`] is one process, [`simulate`] runs a whole cluster, [`outcome`] says commit or abort without the whole run, and a [`Schedule`]
 //! is what a cluster is run by: it parses from the text that the program `bench` reads, and displays as it.
