@@ -3,4 +3,5 @@ pub mod Gathered
 pub mod Places
 pub mod SilentRow
 pub mod Deciding
+pub mod Numbered
 pub mod Asked

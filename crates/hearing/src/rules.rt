@@ -31,7 +31,7 @@ fn is_enough(n: u8, t: u8, r: u8, k: Tally) -> bool
 }
 
 // The rule that an undecided member in range meets, from round 2 on.
-fn rule_met(n: u8, t: u8, r: u8, k: Tally) -> Rule
+pub fn rule_met(n: u8, t: u8, r: u8, k: Tally) -> Rule
     requires counts { ⌜ (1 ≤ t) × (t < n) × (n ≤ largest) × (2 ≤ r) × (estimates k ≤ n) ⌝ }
     ensures met { λ rule. ⌜ rule ≡ ruleMet n t r k ⌝ }
 {

@@ -4,4 +4,5 @@ pub mod Codes
 pub mod Counts
 pub mod Silent
 pub mod Promises
+pub mod Reasons
 pub mod Vectors

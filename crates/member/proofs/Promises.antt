@@ -1,6 +1,6 @@
 -- The promises of a member. Any row takes a decided member one round on as it is. An undecided one goes on with an estimate that is 0, 1 or its
 -- own, undecided or decided in the round that it plays; and in round t + 1 some rule is always met. Assumes nothing.
-use mathlib.Core.Path.{_≡_, refl, _∙_, ap}
+use mathlib.Core.Path.{_≡_, refl, sym, _∙_, ap}
 use mathlib.Core.Logic.{_⊎_, inl, inr, _≢_}
 use mathlib.Core.List.{List}
 use mathlib.Core.Bool.{Bool, true, false, cond, not, _&&_, _||_, false≢true}
@@ -25,7 +25,8 @@ use Rattle.member.specs.Saying.{says}
 use Rattle.member.specs.Hearing.{tallyOf, isEstimate, estimates, told, zerosOnly, quiet, enough, ruleMet, moved, firstEstimate, lowered, toldValue, byRule, becomes, setsSilent, withSilent, hears}
 use Rattle.member.specs.Questions.{rowQuestion, hearQuestion}
 use Rattle.member.specs.Answers.{hearAnswer}
-use Rattle.member.specs.Promises.{OpeningPromises, HearingPromises}
+use Rattle.member.specs.Reasons.{ruleHeard}
+use Rattle.member.specs.Promises.{OpeningPromises, HearingPromises, ReasonPromises}
 use Rattle.member.proofs.Codes.{is-estimate}
 use Rattle.member.proofs.Silent.{silent-below, silent-names, silent-ones, sets, silent-is, silent-left}
 use Rattle.member.proofs.Range.{Limits, Place, waiting, settled, Ranged, ranged, Running, running, open-limits, in-range-ranged, ranged-in-range}
@@ -46,7 +47,7 @@ lowered-bit : (estimate : ℕ) (k : Tally) → estimate ≤ 1 → lowered estima
 unfolding lowered
 lowered-bit estimate k h = cond-bit (ltb 0 (k .zeros)) 0 estimate zero-le h
 
-told-bit : (k : Tally) → toldValue k ≤ 1
+pub told-bit : (k : Tally) → toldValue k ≤ 1
 unfolding toldValue
 told-bit k = cond-bit (ltb 0 (k .aborts)) 0 1 zero-le (omega arith)
 
@@ -115,6 +116,33 @@ module _ (m : Member) (k : Tally) where
         | inl u ↦ let r = last-rule e in rw (becomes-later (eqb-true (m .decided) 0 u) (λ z. omega arith)) (λ z. omega arith)
         | inr d ↦ let h = eqb-false (m .decided) 0 d in rw (becomes-decided h) h
       ]
+
+  -- whether the rule that is met decides
+  rule-decides : (rule : Rule) → rule ≢ NoRule → byRule rule m k .decided ≡ m .round
+  unfolding byRule
+  rule-decides Told other = refl
+  rule-decides ZerosOnly other = refl
+  rule-decides Quiet other = refl
+  rule-decides RoundT other = refl
+  rule-decides LastRound other = refl
+  rule-decides NoRule other = absurd (other refl)
+
+  no-rule-rests : {rule : Rule} → rule ≡ NoRule → byRule rule m k .decided ≡ 0
+  unfolding byRule
+  no-rule-rests e = rw e
+
+  -- the rule that a row meets, by what the member is
+  pub heard-decided : m .decided ≢ 0 → ruleHeard m k ≡ NoRule
+  unfolding ruleHeard
+  heard-decided d = rw (ne-eqb (m .decided) 0 d)
+
+  pub heard-first : m .decided ≡ 0 → m .round ≡ 1 → ruleHeard m k ≡ NoRule
+  unfolding ruleHeard
+  heard-first u r = rw (eq-eqb (m .decided) 0 u, eq-eqb (m .round) 1 r)
+
+  pub heard-later : m .decided ≡ 0 → m .round ≢ 1 → ruleHeard m k ≡ ruleMet (m .n) (m .t) (m .round) k
+  unfolding ruleHeard
+  heard-later u r = rw (eq-eqb (m .decided) 0 u, ne-eqb (m .round) 1 r)
 
 -- Where a member in range that has not stopped comes to.
 undecided-place : (m : Member) (e d : ℕ) → Place m → m .decided ≡ 0 → (d ≡ 0) ⊎ ((d ≡ m .round) × (m .round ≢ 1)) → (m .round ≡ m .t + 1 → d ≢ 0) → Place (moved m e d)
@@ -246,3 +274,38 @@ pub opening-promises : (limit n t id vote : ℕ) → OpeningPromises limit n t i
 opening-promises limit n t id vote = record {
   in-range = λ q. ranged-in-range limit (opening n t id vote) (ranged limit _ (open-limits limit n t id vote q) (waiting refl (omega arith) (omega arith)) (record { below = pow-pos n; not-own = names-nobody 0 0 (id - 1) (omega arith) zero-le }));
 }
+
+module _ (m : Member) (row : List ℕ) where
+  abbrev k : Tally
+  k = tallyOf row
+
+  named-decides : ruleHeard m k ≢ NoRule → (m .decided ≡ 0) × (hears m row .decided ≡ m .round)
+  named-decides other =
+      elim (true-or-false (eqb (m .decided) 0)) [
+        | inl e ↦
+            let u = eqb-true (m .decided) 0 e in
+            elim (true-or-false (eqb (m .round) 1)) [
+              | inl r ↦ absurd (other (heard-first m k u (eqb-true (m .round) 1 r)))
+              | inr r ↦
+                  let later = eqb-false (m .round) 1 r in
+                  (u, ap (λ (x : Member). x .decided) (becomes-later m k u later) ∙ rule-decides m k _ (λ z. other (heard-later m k u later ∙ z)))
+            ]
+        | inr e ↦ absurd (other (heard-decided m k (eqb-false (m .decided) 0 e)))
+      ]
+
+  none-rests : ruleHeard m k ≡ NoRule → hears m row .decided ≡ m .decided
+  none-rests none =
+      elim (true-or-false (eqb (m .decided) 0)) [
+        | inl e ↦
+            let u = eqb-true (m .decided) 0 e in
+            elim (true-or-false (eqb (m .round) 1)) [
+              | inl r ↦ ap (λ (x : Member). x .decided) (becomes-first m k u (eqb-true (m .round) 1 r)) ∙ sym u
+              | inr r ↦
+                  let later = eqb-false (m .round) 1 r in
+                  ap (λ (x : Member). x .decided) (becomes-later m k u later) ∙ no-rule-rests m k (sym (heard-later m k u later) ∙ none) ∙ sym u
+            ]
+        | inr e ↦ ap (λ (x : Member). x .decided) (becomes-decided m k (eqb-false (m .decided) 0 e))
+      ]
+
+  pub reason-promises : ReasonPromises m row
+  reason-promises = record { decides = named-decides; rests = none-rests }

@@ -1,4 +1,4 @@
--- What the three calls answer: for each case of an answer's enum document 01's number and values, and the answer that is due.
+-- What the calls answer: for each case of an answer's enum document 01's number and values, and the answer that is due.
 -- `tt` stands for nothing: a refusal that gives back its number only.
 use Prim.Native.Nat.{ℕ}
 use mathlib.Core.List.{List}
@@ -10,9 +10,13 @@ use Rattle.member.specs.declared.Said.{Said}
 use Rattle.member.specs.declared.Said.the-variants as said
 use Rattle.member.specs.declared.Heard.{Heard}
 use Rattle.member.specs.declared.Heard.the-variants as heard
+use Rattle.member.specs.declared.Reason.{Reason}
+use Rattle.member.specs.declared.Explained.{Explained}
+use Rattle.member.specs.declared.Explained.the-variants as explained
 use Rattle.member.specs.Opening.{opening, openQuestion}
 use Rattle.member.specs.Saying.{says}
 use Rattle.member.specs.Hearing.{hears}
+use Rattle.member.specs.Reasons.{reasonHeard}
 use Rattle.member.specs.Questions.{sayQuestion, hearQuestion}
 
 -- "A refused opening or saying returns its number only"
@@ -37,3 +41,11 @@ heardIs (heard.Refused number m) = refused number m
 
 unfoldable pub hearAnswer : ℕ → Member → List ℕ → Answer Member Member
 hearAnswer limit m row = answer (hearQuestion limit m row) (hears m row) m
+
+abbrev pub explainedIs : Explained → Answer Reason (Unit {0})
+explainedIs (explained.Because reason) = accepted reason
+explainedIs (explained.Refused number) = refused number tt
+
+-- why a member decides by a row: its questions are those of hearing the row
+unfoldable pub explainAnswer : ℕ → Member → List ℕ → Answer Reason (Unit {0})
+explainAnswer limit m row = answer (hearQuestion limit m row) (reasonHeard m row) tt

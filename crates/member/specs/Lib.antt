@@ -2,6 +2,7 @@ pub mod Opening
 pub mod State
 pub mod Saying
 pub mod Hearing
+pub mod Reasons
 pub mod Questions
 pub mod Answers
 pub mod Promises

@@ -13,6 +13,8 @@ use Rattle.member.specs.declared.Member.{Member}
 use Rattle.member.specs.Opening.{opening, openQuestion}
 use Rattle.member.specs.State.{inRange}
 use Rattle.member.specs.Hearing.{tallyOf, isEstimate, estimates, quiet, setsSilent, hears}
+use Rattle.member.specs.declared.Rule.the-variants.{NoRule}
+use Rattle.member.specs.Reasons.{ruleHeard}
 use Rattle.member.specs.Questions.{hearQuestion}
 use Rattle.member.specs.Answers.{hearAnswer}
 
@@ -48,3 +50,8 @@ pub record HearingPromises (limit : ℕ) (m : Member) (row : List ℕ) : Type 0 
       → quiet (m .n) (m .t) (m .round) (tallyOf row) ≡ leb (m .round) (m .t - 1) && leb (ones (hears m row .silent)) (m .round - 2)
   -- and a row that does not set it leaves it as it was
   pub silent-kept : setsSilent m (tallyOf row) ≡ false → hears m row .silent ≡ m .silent
+
+-- of the rule that a row meets, for every state and every row: a member decides by a row, in the round that it plays, exactly where a rule is met
+pub record ReasonPromises (m : Member) (row : List ℕ) : Type 0 where
+  pub decides : ruleHeard m (tallyOf row) ≢ NoRule → (m .decided ≡ 0) × (hears m row .decided ≡ m .round)
+  pub rests : ruleHeard m (tallyOf row) ≡ NoRule → hears m row .decided ≡ m .decided

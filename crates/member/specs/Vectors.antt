@@ -1,5 +1,5 @@
 -- Calls of a member with their answers, written from document 01 by hand, and the statement that covers them. Proved in proofs/Vectors.antt, by
--- computing what the definitions give: `member-vectors : MemberVectors` and `answer-cases : (m : Member) → AnswerCases m`.
+-- computing what the definitions give: `member-vectors : MemberVectors` and `answer-cases : (m : Member) (reason : Reason) → AnswerCases m reason`.
 use Prim.Native.Nat.{ℕ}
 use mathlib.Core.Path.{_≡_}
 use mathlib.Core.List.{List, [], _∷_, map}
@@ -9,7 +9,11 @@ use Rattle.sets.specs.Largest.{largest}
 use Rattle.member.specs.declared.Opened.the-variants as opened
 use Rattle.member.specs.declared.Said.the-variants as said
 use Rattle.member.specs.declared.Heard.the-variants as heard
-use Rattle.member.specs.Answers.{openedIs, openAnswer, saidIs, sayAnswer, heardIs, hearAnswer}
+use Rattle.member.specs.declared.Rule.{Rule}
+use Rattle.member.specs.declared.Rule.the-variants.{Told, ZerosOnly, Quiet, RoundT, LastRound, NoRule}
+use Rattle.member.specs.declared.Reason.{Reason}
+use Rattle.member.specs.declared.Explained.the-variants as explained
+use Rattle.member.specs.Answers.{openedIs, openAnswer, saidIs, sayAnswer, heardIs, hearAnswer, explainedIs, explainAnswer}
 
 -- "The state is n, t, own number, the round to play next, the estimate (0 or 1), and the decided round (0 while undecided).", and the silent set
 abbrev pub state : ℕ → ℕ → ℕ → ℕ → ℕ → ℕ → ℕ → Member
@@ -192,17 +196,66 @@ hearings =
     refuses (two 3 1 0 0) (five 2 2 3 4 2) 17 ∷
     []
 
+-- why a row decides
+pub record ExplainCall : Type 0 where
+  pub member : Member
+  pub row : List ℕ
+  pub answer : Answer Reason (Unit {0})
+
+abbrev pub because : Member → List ℕ → Rule → ℕ → ExplainCall
+because m row rule number = record { member = m; row = row; answer = accepted (record { rule = rule; number = number }) }
+
+abbrev pub explainsNot : Member → List ℕ → ℕ → ExplainCall
+explainsNot m row number = record { member = m; row = row; answer = refused number tt }
+
+abbrev pub explanations : List ExplainCall
+explanations =
+    -- "a decided message with the lowest sender": processes 3 and 5, 1 and 5, with both values; and 5 alone, in a row that is quiet but for it
+    because (two 3 1 0 0) (five 2 2 3 0 3) Told 3 ∷
+    because (two 3 0 0 0) (five 4 1 0 0 4) Told 1 ∷
+    because (two 3 1 0 0) (five 2 2 2 2 3) Told 5 ∷
+    -- also in round t, with enough estimates, and in the last round
+    because (two 4 1 0 0) (five 2 2 3 0 0) Told 3 ∷
+    because (two 5 1 0 0) (five 0 2 0 3 0) Told 4 ∷
+    -- "round 2 with zeros only": two missing, and nobody missing, which is a quiet round too
+    because (two 2 0 0 0) (five 1 1 0 0 1) ZerosOnly 0 ∷
+    because (two 2 0 0 0) (five 1 1 1 1 1) ZerosOnly 0 ∷
+    -- "a quiet round with its number of missing estimates": none in r = 2, one and none in r = 3
+    because (two 2 1 0 0) (five 2 2 2 2 2) Quiet 0 ∷
+    because (two 2 1 0 0) (five 1 2 2 2 2) Quiet 0 ∷
+    because (two 3 1 0 0) (five 2 2 2 2 0) Quiet 1 ∷
+    because (two 3 0 0 0) (five 1 1 1 1 1) Quiet 0 ∷
+    -- "round t with its number of estimates": two of five, and all
+    because (two 4 1 0 0) (five 0 2 2 0 0) RoundT 2 ∷
+    because (two 4 1 0 0) (five 2 2 1 2 2) RoundT 5 ∷
+    -- "or the last round"
+    because (two 5 1 0 0) (five 0 2 0 0 0) LastRound 0 ∷
+    because (two 5 1 0 0) (five 2 2 2 2 2) LastRound 0 ∷
+    -- a row that does not decide: two missing in r = 3; too few estimates in r = t; in round 1; and heard by a decided member
+    because (two 3 1 0 0) (five 2 2 2 0 0) NoRule 0 ∷
+    because (two 4 1 0 0) (five 0 2 0 0 0) NoRule 0 ∷
+    because (two 1 0 0 0) (five 1 1 1 1 1) NoRule 0 ∷
+    because (two 3 1 2 0) (five 2 4 2 2 4) NoRule 0 ∷
+    -- a row that is refused, with the number that hearing it gets: 12, 15 and 17
+    explainsNot (two 4 1 2 0) [] 12 ∷
+    explainsNot (two 2 1 0 0) (five 2 1 3 2 2) 15 ∷
+    explainsNot (two 3 1 0 0) (five 2 2 3 4 2) 17 ∷
+    []
+
 -- each of these calls has its answer
 pub record MemberVectors : Type 0 where
   pub opened : map (λ o. openAnswer largest (o .n) (o .t) (o .id) (o .vote)) openings ≡ map (λ o. o .answer) openings
   pub said : map (λ s. sayAnswer largest (s .member)) sayings ≡ map (λ s. s .answer) sayings
   pub heard : map (λ h. hearAnswer largest (h .member) (h .row)) hearings ≡ map (λ h. h .answer) hearings
+  pub explained : map (λ e. explainAnswer largest (e .member) (e .row)) explanations ≡ map (λ e. e .answer) explanations
 
--- What each case of the answers' enums stands for: a refusal holds document 01's number, an acceptance the state or the code.
-pub record AnswerCases (m : Member) : Type 0 where
+-- What each case of the answers' enums stands for: a refusal holds document 01's number, an acceptance the state, the code or the reason.
+pub record AnswerCases (m : Member) (reason : Reason) : Type 0 where
   pub started : openedIs (opened.Started m) ≡ accepted m
   pub not-opened : openedIs (opened.Refused 10) ≡ refused 10 tt
   pub spoken : saidIs (said.Code 4) ≡ accepted 4
   pub not-said : saidIs (said.Refused 11) ≡ refused 11 tt
   pub moved : heardIs (heard.Moved m) ≡ accepted m
   pub not-heard : heardIs (heard.Refused 15 m) ≡ refused 15 m
+  pub why : explainedIs (explained.Because reason) ≡ accepted reason
+  pub not-explained : explainedIs (explained.Refused 7) ≡ refused 7 tt

@@ -5,8 +5,8 @@
 // `size_question` asks about n and t alone. The state goes in and comes back by value. Each takes anything,
 // and none has a `requires`: `open` and `say` answer what specs/Answers.antt gives, refusals too.
 //
-// What a row of codes makes of a member is `hear` of the crate `hearing`. Its types stand here, since the
-// definitions in specs/ name them.
+// What a row of codes makes of a member is `hear` of the crate `hearing`, and why it decides by it `explain`.
+// Their types stand here, since the definitions in specs/ name them.
 mod limits;
 mod state;
 
@@ -68,6 +68,19 @@ pub enum Said {
 pub enum Heard {
     Moved(Member),
     Refused(u8, Member),
+}
+
+// Why a member decides: the rule, and the number that goes with it. Without a decision the rule is none, and
+// the number that of the crash round, where one is known.
+pub struct Reason {
+    pub rule: Rule,
+    pub number: u8,
+}
+
+// The reason, or the number of the first question whose answer is no.
+pub enum Explained {
+    Because(Reason),
+    Refused(u8),
 }
 
 pub fn open(n: usize, t: usize, id: usize, vote: u8) -> Opened

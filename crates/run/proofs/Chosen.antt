@@ -16,7 +16,7 @@ use Rattle.member.specs.Hearing.{estimates, told, zerosOnly, quiet, enough, rul
 pub data Chosen (n t r : ℕ) (k : Tally) : Rule → Type 0 where
   by-message : told k ≡ true → Chosen n t r k Told
   by-zeros : told k ≡ false → r ≡ 2 → k .ones ≡ 0 → Chosen n t r k ZerosOnly
-  by-quiet : told k ≡ false → r ≤ t - 1 → n - estimates k ≤ r - 2 → Chosen n t r k Quiet
+  by-quiet : told k ≡ false → (r ≡ 2 → k .ones ≢ 0) → r ≤ t - 1 → n - estimates k ≤ r - 2 → Chosen n t r k Quiet
   by-count : told k ≡ false → r ≡ t → n - t + 1 ≤ estimates k → Chosen n t r k RoundT
   by-last : told k ≡ false → r ≡ t + 1 → Chosen n t r k LastRound
   by-none : told k ≡ false → (r ≡ 2 → k .ones ≢ 0) → (r ≤ t - 1 → r - 2 < n - estimates k) → (r ≡ t → estimates k < n - t + 1) → r ≢ t + 1
@@ -65,7 +65,7 @@ module _ (n t r : ℕ) (k : Tally) where
               | inr a ↦
                   rw a
                   (elim (true-or-false (quiet n t r k)) [
-                    | inl b ↦ rw b (let h = quiet-test b in by-quiet e (h .0) (h .1))
+                    | inl b ↦ rw b (let h = quiet-test b in by-quiet e (zeros-fails a) (h .0) (h .1))
                     | inr b ↦
                         rw b
                         (elim (true-or-false (enough n t r k)) [
@@ -87,7 +87,7 @@ module _ {n t r : ℕ} {k : Tally} (m : Member) where
   unfolding byRule
   told-estimate rule (by-message _) e = (refl, refl)
   told-estimate rule (by-zeros z _ _) e = absurd (true≢false cc)
-  told-estimate rule (by-quiet z _ _) e = absurd (true≢false cc)
+  told-estimate rule (by-quiet z _ _ _) e = absurd (true≢false cc)
   told-estimate rule (by-count z _ _) e = absurd (true≢false cc)
   told-estimate rule (by-last z _) e = absurd (true≢false cc)
   told-estimate rule (by-none z _ _ _ _) e = absurd (true≢false cc)
@@ -97,7 +97,7 @@ module _ {n t r : ℕ} {k : Tally} (m : Member) where
   unfolding byRule
   untold-estimate rule (by-message y) e = absurd (true≢false cc)
   untold-estimate rule (by-zeros _ _ _) e = refl
-  untold-estimate rule (by-quiet _ _ _) e = refl
+  untold-estimate rule (by-quiet _ _ _ _) e = refl
   untold-estimate rule (by-count _ _ _) e = refl
   untold-estimate rule (by-last _ _) e = refl
   untold-estimate rule (by-none _ _ _ _ _) e = refl

@@ -15,8 +15,9 @@ use Rattle.member.specs.declared.Rule.{Rule}
 use Rattle.member.specs.State.{stopped}
 use Rattle.member.specs.Saying.{says}
 use Rattle.member.specs.Hearing.{tallyOf, estimates, told, ruleMet, firstEstimate, lowered, byRule, becomes, hears, isEstimate}
+use Rattle.member.specs.Reasons.{ruleHeard}
 use Rattle.member.specs.Promises.{HearingPromises}
-use Rattle.member.proofs.Promises.{becomes-first, becomes-later, undecided-step, decides-last, hearing-promises}
+use Rattle.member.proofs.Promises.{becomes-first, becomes-later, heard-later, undecided-step, decides-last, hearing-promises}
 use Rattle.run.specs.Protocol.{fcwfa}
 use Rattle.run.proofs.OneRound.{estimatesIn, NoneDecided, LoweredBy, ToldBy, FirstRound, by-zeros, by-quiet, by-count, by-last, Ends, decides, waits}
 use Rattle.run.proofs.Rows.{Counts, counts-of, some-one, no-one, told-value, is-told, not-told, lowered-by, first-estimate}
@@ -111,20 +112,22 @@ moves-of : (n t r : ℕ) (m : Member) (row : List ℕ) → Stands n t r m → m 
 moves-of n t r m row a u = elim (may-decide m row u) [ inl z ↦ inl z | inr z ↦ inr (z ∙ undecided-round n t r m a u) ]
 
 -- from round 2 on: the rule that is met, and the state by it
-record Later (n t r : ℕ) (m : Member) (row : List ℕ) : Type 0 where
-  met : Rule
-  chose : Chosen n t (suc r) (tallyOf row) met
-  is : becomes m (tallyOf row) ≡ byRule met m (tallyOf row)
-  in-round : m .round ≡ suc r
+pub record Later (n t r : ℕ) (m : Member) (row : List ℕ) : Type 0 where
+  pub met : Rule
+  pub named : ruleHeard m (tallyOf row) ≡ met
+  pub chose : Chosen n t (suc r) (tallyOf row) met
+  pub is : becomes m (tallyOf row) ≡ byRule met m (tallyOf row)
+  pub in-round : m .round ≡ suc r
 
 chosen-for : (n t r : ℕ) {n′ t′ r′ : ℕ} (k : Tally) → n′ ≡ n → t′ ≡ t → r′ ≡ r → Chosen n t r k (ruleMet n′ t′ r′ k)
 chosen-for n t r k x y z = rw (x, y, z) (chosen n t r k)
 
-later : (n t r : ℕ) (m : Member) (row : List ℕ) → Stands n t r m → m .decided ≡ 0 → 0 < r → Later n t r m row
+pub later : (n t r : ℕ) (m : Member) (row : List ℕ) → Stands n t r m → m .decided ≡ 0 → 0 < r → Later n t r m row
 later n t r m row a u p =
     let e = undecided-round n t r m a u in
     record {
       met = ruleMet (m .n) (m .t) (m .round) (tallyOf row);
+      named = heard-later m (tallyOf row) u (λ q. omega arith);
       chose = chosen-for n t (suc r) (tallyOf row) (a .n-is) (a .t-is) e;
       is = becomes-later m (tallyOf row) u (λ q. omega arith);
       in-round = e;
@@ -185,7 +188,7 @@ module _ (n t r : ℕ) (m : Member) (c : ℕ → ℕ) (a : Stands n t r m) (u : 
       go : (met : Rule) → Chosen n t (suc r) k met → hears m row .decided ≡ byRule met m k .decided → m .round ≡ suc r → Ends n t r c (hears m row .decided)
       go met (rule.by-message y) q e = absurd (true≢false (sym y ∙ not-told n c k counted low))
       go met (rule.by-zeros _ two none) q e = decides (q ∙ e) (by-zeros (omega arith) (no-one n c k counted none))
-      go met (rule.by-quiet _ early few) q e = decides (q ∙ e) (by-quiet (omega arith) (omega (arith, estimates-are, most)))
+      go met (rule.by-quiet _ _ early few) q e = decides (q ∙ e) (by-quiet (omega arith) (omega (arith, estimates-are, most)))
       go met (rule.by-count _ at many) q e = decides (q ∙ e) (by-count at (omega (arith, estimates-are)))
       go met (rule.by-last _ at) q e = decides (q ∙ e) (by-last (omega arith))
       go met (rule.by-none _ ones few many end) q e =

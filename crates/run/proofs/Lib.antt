@@ -26,6 +26,7 @@ pub mod Given
 pub mod Before
 pub mod Deciders
 pub mod Outcome
+pub mod Why
 pub mod NoneRefused
 pub mod OwnAnswers
 pub mod Silence

@@ -21,6 +21,7 @@ use Rattle.run.proofs.NoneRefused.{none-refused}
 use Rattle.run.proofs.OwnAnswers.{own-answers}
 use Rattle.run.proofs.Given.{given-promises}
 use Rattle.run.proofs.Outcome.{outcome-promises}
+use Rattle.run.proofs.Why.{why-promises}
 use Rattle.run.proofs.Silence.{silent-from, mute-stops}
 
 -- the conditions of demand 3 are what document 01 has them be
@@ -48,5 +49,6 @@ accepted-run s limit answers e =
       own-answers = own-answers fcwfa limit s (none-refused s (a .rules) limit (a .n-high));
       silence = let low = a .n-low in silent-from fcwfa s (omega arith) mute-stops;
       outcome = outcome-promises s (a .rules);
+      why = why-promises s (a .rules);
       given = given-promises s (a .rules);
     }

@@ -19,6 +19,7 @@ use Rattle.run.specs.CrashesSoFar.{NobodyUndecided, CrashesSoFar, LastRo
 use Rattle.run.specs.SilentSets.{SilentSets}
 use Rattle.run.specs.Given.{GivenNoneBy, GivenPromises}
 use Rattle.run.specs.Outcome.{outcomeRound, outcomeDecision, OutcomePromises}
+use Rattle.run.specs.Why.{whyOf, WhyPromises}
 
 module _ (P : Protocol) (s : Schedule) where
   -- Who hears whom in round r, whatever the states at its start: what i hears from j.
@@ -109,5 +110,7 @@ pub record RunPromises (limit : ℕ) (s : Schedule) : Type 0 where
   pub silence : (r : ℕ) → sentAfter fcwfa s r ≡ 0 → SilentFrom fcwfa s r
   -- the outcome, which is answered without the whole run: what every process decides that decides, and the first round in which one does
   pub outcome : OutcomePromises s (outcomeDecision fcwfa s) (outcomeRound fcwfa s)
+  -- why each process decided, or did not
+  pub why : (i : ℕ) → i < s .n → WhyPromises s i (whyOf s i)
   -- demand 3, the crashes so far and the deciders of the report itself, on its counts and its tables
   pub given : GivenPromises s (report fcwfa s)

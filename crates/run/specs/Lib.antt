@@ -7,5 +7,6 @@ pub mod SilentSets
 pub mod Deciders
 pub mod Given
 pub mod Outcome
+pub mod Why
 pub mod Facts
 pub mod Vectors

@@ -2,24 +2,29 @@
 -- `accepted-texts : (limit most : ℕ) → limit ≤ 99 → TextPromises limit most`,
 -- `outputs : (P : Protocol) (limit most : ℕ) → ReportOutputPromises P limit most`,
 -- `outcome-outputs : (P : Protocol) (limit most : ℕ) → OutcomeOutputPromises P limit most`,
+-- `reasons-outputs : (limit most : ℕ) → ReasonsOutputPromises limit most`,
 -- `printed-keeps-promises : (limit most : ℕ) → PrintedKeepsPromises limit most`.
 use Prim.Native.Nat.{ℕ, _+_, _≤_, _<_}
 use mathlib.Core.Path.{_≡_}
+use mathlib.Core.Logic.{_≢_}
 use mathlib.Core.List.{List}
 use mathlib.Core.Bool.{true}
 use lib.ListN.{length, getD}
 use Rattle.laws.specs.Answer.{accepted, refused}
 use Rattle.lines.specs.Lines.{lineOf}
 use Rattle.sets.specs.Largest.{largest}
+use Rattle.member.specs.declared.Rule.the-variants.{ZerosOnly, LastRound}
+use Rattle.member.specs.declared.Reason.{Reason}
 use Rattle.schedule.specs.Schedule.{Schedule}
 use Rattle.schedule.specs.Questions.{question}
 use Rattle.run.specs.Protocol.{Protocol, fcwfa}
 use Rattle.run.specs.Report.{Report, report}
 use Rattle.run.specs.Given.{GivenPromises}
 use Rattle.run.specs.Outcome.{outcomeRound, outcomeDecision, OutcomePromises}
+use Rattle.run.specs.Why.{whyOf, WhyPromises}
 use Rattle.text.specs.Written.{textOf, longestWritten, textLength}
 use Rattle.text.specs.Reading.{longest, sizesIn, textAnswer}
-use Rattle.text.specs.Output.{reportText, outcomeText, refusalText, reportShown, outcomeShown, outputOf}
+use Rattle.text.specs.Output.{reportText, outcomeText, reasonsText, refusalText, reportShown, outcomeShown, reasonsShown, outputOf}
 
 -- the bytes print what is given for the schedule, and what is given keeps the promises
 pub record PrintsPromises (s : Schedule) (bytes : List ℕ) : Type 0 where
@@ -33,6 +38,12 @@ pub record PrintsOutcome (s : Schedule) (bytes : List ℕ) : Type 0 where
   pub round : ℕ
   pub prints : bytes ≡ outcomeText decision round
   pub promises : OutcomePromises s decision round
+
+-- the bytes print a reason for each process of the schedule, and these keep the promises
+pub record PrintsReasons (s : Schedule) (bytes : List ℕ) : Type 0 where
+  pub why : ℕ → Reason
+  pub prints : bytes ≡ reasonsText (s .n) why
+  pub promises : (i : ℕ) → i < s .n → WhyPromises s i (why i)
 
 -- Two reports that are printed alike say the same: the sizes, the counts, and the decision and the round of each process. So what is printed has one
 -- reading. Proved in proofs/Says.antt:
@@ -86,10 +97,26 @@ pub record OutcomeOutputPromises (P : Protocol) (limit most : ℕ) : Type 1 wher
       → (v r : ℕ) → outputOf (outcomeShown P) text limit most ≡ outcomeText v r → ⊥
   pub refusals : RefusalsSay (outcomeShown P) limit most
 
--- Under FCWFA: what is promised of what either program prints for an accepted text.
+-- Two reasons that are printed alike are of one rule, and have the same number where the rule has one.
+pub record SameReason (a b : Reason) : Type 0 where
+  pub rule : a .rule ≡ b .rule
+  pub number : a .rule ≢ ZerosOnly → a .rule ≢ LastRound → a .number ≡ b .number
+
+-- And of what `why` prints.
+pub record ReasonsOutputPromises (limit most : ℕ) : Type 0 where
+  -- whatever reasons are read in what is printed for an accepted text, they are those of the processes of its schedule
+  pub says : (text : List ℕ) (s : Schedule) → textAnswer text limit most ≡ accepted s
+      → (m : ℕ) (why : ℕ → Reason) → outputOf reasonsShown text limit most ≡ reasonsText m why → (s .n ≡ m) × ((i : ℕ) → i < m → SameReason (whyOf s i) (why i))
+  -- what is printed for a refused text is no list of reasons, and says the refusal
+  pub told-apart : (text : List ℕ) (number k : ℕ) → textAnswer text limit most ≡ refused number k
+      → (m : ℕ) (why : ℕ → Reason) → outputOf reasonsShown text limit most ≡ reasonsText m why → ⊥
+  pub refusals : RefusalsSay reasonsShown limit most
+
+-- Under FCWFA: what is promised of what each program prints for an accepted text.
 pub record PrintedKeepsPromises (limit most : ℕ) : Type 0 where
   pub report-printed : (text : List ℕ) (s : Schedule) → textAnswer text limit most ≡ accepted s → PrintsPromises s (outputOf (reportShown fcwfa) text limit most)
   pub outcome-printed : (text : List ℕ) (s : Schedule) → textAnswer text limit most ≡ accepted s → PrintsOutcome s (outputOf (outcomeShown fcwfa) text limit most)
+  pub reasons-printed : (text : List ℕ) (s : Schedule) → textAnswer text limit most ≡ accepted s → PrintsReasons s (outputOf reasonsShown text limit most)
 
 -- The length of any schedule's text, accepted or not. Proved in proofs/Theorem.antt: `text-lengths : TextLengths`.
 pub record TextLengths : Type 0 where

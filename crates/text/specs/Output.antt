@@ -1,4 +1,4 @@
--- What the programs `bench` and `outcome` print for a text, accepted or refused, as bytes.
+-- What the programs `bench`, `outcome` and `why` print for a text, accepted or refused, as bytes.
 use Prim.Native.Nat.{ℕ, _+_}
 use Prim.Native.Char.{code}
 use mathlib.Core.List.{List, [], _∷_, _++_}
@@ -10,10 +10,14 @@ use Rattle.laws.specs.Answer.{Answer, accepted, refused}
 use Rattle.lines.specs.Lines.{lf, lineOf}
 use Rattle.fields.specs.Decimal.{letter, field}
 use Rattle.fields.specs.Fields.{space}
+use Rattle.member.specs.declared.Rule.{Rule}
+use Rattle.member.specs.declared.Rule.the-variants.{Told, ZerosOnly, Quiet, RoundT, LastRound, NoRule}
+use Rattle.member.specs.declared.Reason.{Reason}
 use Rattle.schedule.specs.Schedule.{Schedule}
 use Rattle.run.specs.Protocol.{Protocol}
 use Rattle.run.specs.Report.{Report, report}
 use Rattle.run.specs.Outcome.{outcomeRound, outcomeDecision}
+use Rattle.run.specs.Why.{whyOf}
 use Rattle.text.specs.Written.{eachLine}
 use Rattle.text.specs.Reading.{textAnswer}
 
@@ -71,6 +75,37 @@ outcomeHeading = quoted "decision round\n"
 unfoldable pub outcomeText : ℕ → ℕ → List ℕ
 outcomeText decision round = outcomeHeading ++ decidedFields decision round
 
+-- `id rule number`, with its LF
+abbrev pub reasonsHeading : List ℕ
+reasonsHeading = quoted "id rule number\n"
+
+-- the word for each rule: "a decided message", "round 2 with zeros only, a quiet round", "round t", "or the last round"; no rule is named of "a process
+-- without a decision", and its number is that of its crash round
+unfoldable pub ruleWord : Rule → List ℕ
+ruleWord Told = quoted "told"
+ruleWord ZerosOnly = quoted "zeros"
+ruleWord Quiet = quoted "quiet"
+ruleWord RoundT = quoted "round-t"
+ruleWord LastRound = quoted "last"
+ruleWord NoRule = quoted "crashed"
+
+-- the number that goes with a rule, at the end of a line, and `-` for the two that have none
+unfoldable pub numberField : Rule → ℕ → List ℕ
+numberField Told number = field number lf
+numberField ZerosOnly number = quoted "-\n"
+numberField Quiet number = field number lf
+numberField RoundT number = field number lf
+numberField LastRound number = quoted "-\n"
+numberField NoRule number = field number lf
+
+-- the line of the process with this number
+unfoldable pub reasonLine : ℕ → Reason → List ℕ
+reasonLine id why = field id space ++ (ruleWord (why .rule) ++ ((space ∷ []) ++ numberField (why .rule) (why .number)))
+
+-- what is printed of the reasons of n processes, from those at places 0, 1, ..
+unfoldable pub reasonsText : ℕ → (ℕ → Reason) → List ℕ
+reasonsText n why = reasonsHeading ++ eachLine n (λ i. reasonLine (i + 1) (why i))
+
 -- "A refused text prints three lines: `refused line`; the number and the line's number split by one space; that line itself (empty for line 0)."
 unfoldable pub refusalText : ℕ → ℕ → List ℕ → List ℕ
 refusalText number k line = refusedHeading ++ (field number space ++ (field k lf ++ (line ++ (lf ∷ []))))
@@ -82,6 +117,10 @@ module _ (P : Protocol) (s : Schedule) where
 
   abbrev pub outcomeShown : List ℕ
   outcomeShown = outcomeText (outcomeDecision P s) (outcomeRound P s)
+
+-- and what `why` prints, which runs FCWFA
+abbrev pub reasonsShown : Schedule → List ℕ
+reasonsShown s = reasonsText (s .n) (whyOf s)
 
 -- Of a program that prints `shown s` for an accepted schedule s.
 module _ (shown : Schedule → List ℕ) (text : List ℕ) where
