@@ -33,7 +33,8 @@ front-padded n f = take-at (tabulate n f) (drop n (replicate largest 0)) n (leng
 -- A round of n processes whose codes were delivered.
 module _ (P : Protocol) (n r : ℕ) (code : ℕ → ℕ) (crashes reaches : List ℕ) {grid gridNow : List (List ℕ)}
     (sent : Delivers n r code crashes reaches grid gridNow) where
-  row-at : (i : ℕ) → i < n → take n (getD gridNow i []) ≡ tabulate n (heardFrom crashes reaches r code i)
+  -- the first n codes of a row in the grid are the row of its process
+  pub row-at : (i : ℕ) → i < n → take n (getD gridNow i []) ≡ tabulate n (heardFrom crashes reaches r code i)
   row-at i l = ap (take n) (over-at sent i [] l) ∙ front-padded n (heardFrom crashes reaches r code i)
 
   -- the rows of the grid are heard, and if the codes are what the members say, that is the round

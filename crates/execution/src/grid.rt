@@ -1,4 +1,7 @@
 // The grid in which the rows of a round are formed, a row for each process. It is formed once for a run.
+ghost use mathlib.Core.Path.{_≡_};
+ghost use lib.ListN.{replicate};
+ghost use Rattle.sets.specs.Largest.{largest};
 use sets::WIDTH;
 use sets::zero_bytes;
 
@@ -6,7 +9,9 @@ use sets::zero_bytes;
 pub const FEW: usize = 16;
 
 // The grid before the first round of a run.
-pub fn all_rows() -> [[u8; WIDTH]; WIDTH] {
+pub fn all_rows() -> [[u8; WIDTH]; WIDTH]
+    ensures blank { λ r. ⌜ r ≡ replicate largest (replicate largest 0) ⌝ }
+{
     let row = zero_bytes();
     [row; WIDTH]
 }

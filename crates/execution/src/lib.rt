@@ -3,13 +3,15 @@
 // The members stand side by side in an array, and round.rt plays one round of them. `play_rounds` asks questions
 // 1 to 7 and plays as many rounds as it is told (play.rt), and `play_to_decision` asks them and plays rounds
 // until one in which some process decides (decision.rt). Each takes anything, and has no `requires`. That no call
-// of a member is refused in the run of an accepted schedule is proved.
+// of a member is refused in the run of an accepted schedule is proved. `all_rows` is a grid for the rows of a
+// round, without any yet.
 mod calls;
 mod decision;
 mod grid;
 mod play;
 mod round;
 
+pub use grid::all_rows;
 ghost use mathlib.Core.Path.{_≡_};
 ghost use Prim.Native.Nat.{_+_, min};
 ghost use Rattle.sets.specs.Largest.{largest};

@@ -4,12 +4,11 @@ use mathlib.Core.Path.{_≡_, sym, ap, _∙_, subst}
 use mathlib.Core.List.{List}
 use mathlib.Core.Bool.{Bool, cond}
 use Prim.Native.Nat.{ℕ, _+_, _≤_, _<_, min}
-use native.Mathlib.Omega.{arith}
 use lib.Dec.{eqb}
 use lib.ListN.{length, getD}
 use Rattle.laws.specs.Below.{tabulate}
 use Rattle.laws.specs.Answer.{accepted, refused, placeAfter}
-use Rattle.laws.proofs.Lists.{length-tabulate, getD-tabulate, tabulate-same}
+use Rattle.laws.proofs.Lists.{length-tabulate, tabulate-same}
 use Rattle.laws.proofs.Answer.{answer-accepted, answer-refused, valueOr, not-accepted, place-given, place-kept}
 use Rattle.member.specs.declared.Member.{Member}
 use Rattle.sets.specs.Largest.{largest}
@@ -18,15 +17,15 @@ use Rattle.schedule.specs.Questions.{answersOf, question, Accepted}
 use Rattle.schedule.specs.Counting.{crashesCounted}
 use Rattle.schedule.proofs.Accepted.{both-long, question-accepted}
 use Rattle.schedule.proofs.Counting.{f-counted}
-use Rattle.run.specs.Protocol.{Protocol, fcwfa, nobody}
+use Rattle.run.specs.Protocol.{Protocol, fcwfa}
 use Rattle.run.specs.Run.{stateAt, final}
 use Rattle.run.specs.Report.{roundOf, decisionOf, firstOf, lastOf, messages, report}
 use Rattle.run.specs.Given.{GivenPromises}
 use Rattle.run.proofs.Reported.{rounds-read}
 use Rattle.run.proofs.Theorem.{accepted-run}
 use Rattle.execution.specs.declared.Ran.{Ran}
-use Rattle.execution.specs.Rounds.{noMembers}
-use Rattle.execution.specs.Ran.{membersAfter, messagesAfter, ranOf}
+use Rattle.execution.specs.Ran.{messagesAfter, ranOf}
+use Rattle.execution.proofs.Whole.{left-messages, all-rounds, final-at}
 use Rattle.simulator.specs.declared.Counts.{Counts}
 use Rattle.simulator.specs.declared.Simulated.the-variants.{Completed, Refused}
 use Rattle.simulator.specs.Answers.{simulatedIs, countsOf, simulateQuestion, simulateAnswer, decisionsAfter, roundsAfter, givenBy, AnswersKeepPromises}
@@ -68,32 +67,12 @@ module _ (P : Protocol) (s : Schedule) (decisions rounds : List ℕ) {ran : Ran}
     given-table : (given lent : List ℕ) → given ≡ placeAfter (simulateQuestion largest s decisions rounds) given lent
     given-table given lent = sym (place-given _ given lent passed)
 
-    -- the rounds that are played are all of the run: t is below n, and n at most the largest
-    all-rounds : min largest (s .t + 1) ≡ s .t + 1
-    all-rounds =
-        let n-high = accepts .n-high in
-        let t-high = accepts .rules .t-high in
-        omega arith
-
-    -- the members are the states at the end of the run, and the messages those of the run
-    members-are : ran .members ≡ tabulate largest (stateAt (final P s))
-    unfolding final
-    members-are =
-        ap (λ (r : Ran). r .members) left
-        ∙ place-given _ (membersAfter P s (min largest (s .t + 1))) noMembers passed
-        ∙ ap (membersAfter P s) all-rounds
-
     state-at : (i : ℕ) → i < s .n → stateAt (ran .members) i ≡ stateAt (final P s) i
-    state-at i l =
-        let n-high = small in
-        ap (λ (states : List Member). stateAt states i) members-are ∙ getD-tabulate largest (stateAt (final P s)) i nobody (omega arith)
+    state-at = final-at P s _ passed left
 
     messages-are : ran .messages ≡ messages P s
     unfolding messages
-    messages-are =
-        ap (λ (r : Ran). r .messages) left
-        ∙ place-given _ (messagesAfter P s (min largest (s .t + 1))) 0 passed
-        ∙ ap (messagesAfter P s) all-rounds
+    messages-are = left-messages P s _ passed (min largest (s .t + 1)) left ∙ ap (messagesAfter P s) (all-rounds P s _ passed)
 
     decisions-are : {given : List ℕ} → given ≡ tabulate (length decisions) (decisionOf (ran .members)) → given ≡ report P s .decisions
     unfolding decisionOf

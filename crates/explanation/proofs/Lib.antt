@@ -1,0 +1,2 @@
+pub mod OwnRow
+pub mod Whole
