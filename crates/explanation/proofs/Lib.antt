@@ -1,2 +1,3 @@
 pub mod OwnRow
 pub mod Whole
+pub mod Vectors

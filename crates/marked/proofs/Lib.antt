@@ -1,1 +1,2 @@
 pub mod Entries
+pub mod Reasons

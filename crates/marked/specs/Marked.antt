@@ -8,11 +8,14 @@ use mathlib.Core.Bool.{true}
 use lib.ListN.{length, getD}
 use lib.Dec.{ltb}
 use Rattle.sets.specs.Largest.{largest}
+use Rattle.member.specs.declared.Rule.the-variants.{ZerosOnly, Quiet, RoundT, LastRound, NoRule}
+use Rattle.member.specs.declared.Reason.{Reason}
 use Rattle.schedule.specs.Schedule.{Schedule}
 use Rattle.schedule.specs.Questions.{question}
 use Rattle.schedule.specs.Four.{four, allOne, allZero}
 use Rattle.run.specs.Protocol.{fcwfa}
 use Rattle.run.specs.Report.{Report, report}
+use Rattle.run.specs.Vectors.{because, reasonsIn}
 use Rattle.marked.specs.declared.Case.{Case}
 use Rattle.marked.specs.declared.CaseEntry.{CaseEntry}
 
@@ -82,6 +85,40 @@ expected c = record {
 pub record MarkedTable (table : List Case) : Type 0 where
   pub entries : table ≡ cases
   pub accepted : map (λ c. question (markedSchedule c) largest true) table ≡ map (λ c. 0) table
+
+-- Why each process of A to K decided, or did not, worked by hand from document 01: the rule with its number, and no rule and the crash round for one
+-- without a decision.
+abbrev pub crashed : ℕ → Reason
+crashed round = because NoRule round
+
+-- of four processes
+abbrev pub each : Reason → Reason → Reason → Reason → List Reason
+each a b c d = a ∷ b ∷ c ∷ d ∷ []
+
+abbrev pub markedReasons : List (List Reason)
+markedReasons =
+    -- A, in which nobody is missing in round 2; B, in which all estimates of round 2 are 0, and nobody is missing either; C, in which they are 0 since all miss
+    -- process 1 in round 1
+    each (because Quiet 0) (because Quiet 0) (because Quiet 0) (because Quiet 0) ∷
+    each (because ZerosOnly 0) (because ZerosOnly 0) (because ZerosOnly 0) (because ZerosOnly 0) ∷
+    each (crashed 1) (because ZerosOnly 0) (because ZerosOnly 0) (because ZerosOnly 0) ∷
+    -- D, three estimates in round t
+    each (crashed 1) (because RoundT 3) (because RoundT 3) (because RoundT 3) ∷
+    -- E, in which process 3 hears nobody else in round t; F, in which it hears process 2; G, in which both hear each other
+    each (crashed 1) (crashed 3) (because LastRound 0) (crashed 2) ∷
+    each (crashed 1) (crashed 3) (because RoundT 2) (crashed 2) ∷
+    each (crashed 1) (because RoundT 2) (because RoundT 2) (crashed 2) ∷
+    -- H and J, in which process 1 crashes after it has decided; I, in which it crashes in round 2, and all hear it
+    each (because Quiet 0) (because Quiet 0) (because Quiet 0) (because Quiet 0) ∷
+    each (crashed 2) (because Quiet 0) (because Quiet 0) (because Quiet 0) ∷
+    each (because Quiet 0) (because Quiet 0) (because Quiet 0) (because Quiet 0) ∷
+    -- K, in which process 4 hears its own estimate alone, a 0
+    each (crashed 1) (crashed 1) (crashed 1) (because ZerosOnly 0) ∷
+    []
+
+-- they are what the definitions give: proved in proofs/Reasons.antt, `marked-reasons : MarkedReasons`
+pub record MarkedReasons : Type 0 where
+  pub given : map reasonsIn schedules ≡ markedReasons
 
 -- what stands where there is no case
 abbrev pub noCase : Case

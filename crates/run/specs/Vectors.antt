@@ -5,7 +5,11 @@ use mathlib.Core.Path.{_≡_}
 use mathlib.Core.List.{List, [], _∷_, map}
 use lib.ListN.{getD}
 use Rattle.sets.specs.Largest.{largest}
+use Rattle.laws.specs.Below.{tabulate}
 use Rattle.member.specs.declared.Member.{Member}
+use Rattle.member.specs.declared.Rule.{Rule}
+use Rattle.member.specs.declared.Rule.the-variants.{Told, Quiet, LastRound, NoRule}
+use Rattle.member.specs.declared.Reason.{Reason}
 use Rattle.member.specs.Opening.{opening}
 use Rattle.schedule.specs.Four.{four, allZero, fourVoting1}
 use Rattle.schedule.specs.Schedule.{Schedule, scheduleOf, crashedBy}
@@ -15,6 +19,7 @@ use Rattle.run.specs.Report.{firstOf, lastOf, report}
 use Rattle.run.specs.Demand.{roundB, mostMessages}
 use Rattle.run.specs.CrashesSoFar.{settlingOf}
 use Rattle.run.specs.Outcome.{lowestDecided, outcomeRound, outcomeDecision}
+use Rattle.run.specs.Why.{whyOf}
 
 -- the rounds that stand in a table, 0 past its end
 abbrev pub roundsIn : List ℕ → ℕ → ℕ
@@ -39,6 +44,13 @@ decidedIn r = record { n = 4; t = 3; id = 1; round = 5; estimate = 1; decided = 
 -- the decision and the round of a schedule's outcome
 abbrev pub outcomeIn : Schedule → List ℕ
 outcomeIn s = outcomeDecision fcwfa s ∷ outcomeRound fcwfa s ∷ []
+
+-- a rule with its number, and the reasons of all processes of a schedule
+abbrev pub because : Rule → ℕ → Reason
+because rule number = record { rule = rule; number = number }
+
+abbrev pub reasonsIn : Schedule → List Reason
+reasonsIn s = tabulate (s .n) (whyOf s)
 
 pub record RunVectors : Type 0 where
   -- B = f + 2 if f ≤ t − 2 and f + 1 otherwise: t = 3 with no crash to three, and t = 5 with no crash to five
@@ -80,6 +92,14 @@ pub record RunVectors : Type 0 where
       ≡ (1 ∷ 2 ∷ []) ∷ (0 ∷ 2 ∷ []) ∷ (0 ∷ 3 ∷ []) ∷ (1 ∷ 4 ∷ []) ∷ (0 ∷ 3 ∷ []) ∷ (0 ∷ 3 ∷ []) ∷ (0 ∷ 2 ∷ []) ∷ (1 ∷ 2 ∷ []) ∷ []
   -- where all four crash in round 1, one more than t, nobody decides: 2 for none, and t + 2 for the round
   pub no-outcome : outcomeIn (fourVoting1 (four 1 1 1 1) allZero) ≡ 2 ∷ 5 ∷ []
+  -- why each process decided, or did not. Process 1 crashes in round 2 and reaches 2 and 3: these miss nobody, and process 4 hears of both a round later.
+  pub told-by-2 : reasonsIn (fourVoting1 (four 2 0 0 0) (four 6 0 0 0)) ≡ because NoRule 2 ∷ because Quiet 0 ∷ because Quiet 0 ∷ because Told 2 ∷ []
+  -- Processes 1 and 2 crash in round 2, and process 4 alone hears both. It crashes in round 3: its message comes to process 3, and then does not.
+  pub told-by-4 : reasonsIn (fourVoting1 (four 2 2 0 3) (four 10 8 0 4)) ≡ because NoRule 2 ∷ because NoRule 2 ∷ because Told 4 ∷ because Quiet 0 ∷ []
+  pub untold-by-4 : reasonsIn (fourVoting1 (four 2 2 0 3) (four 10 8 0 0)) ≡ because NoRule 2 ∷ because NoRule 2 ∷ because LastRound 0 ∷ because Quiet 0 ∷ []
+  -- Six processes with t = 5: process 1 crashes in round 2 unheard, and the others decide in round 3 with one missing.
+  pub one-missing : reasonsIn (scheduleOf 6 5 (1 ∷ 1 ∷ 1 ∷ 1 ∷ 1 ∷ 1 ∷ []) (2 ∷ 0 ∷ 0 ∷ 0 ∷ 0 ∷ 0 ∷ []) (0 ∷ 0 ∷ 0 ∷ 0 ∷ 0 ∷ 0 ∷ []))
+      ≡ because NoRule 2 ∷ because Quiet 1 ∷ because Quiet 1 ∷ because Quiet 1 ∷ because Quiet 1 ∷ because Quiet 1 ∷ []
   -- what the answers of calls come to: an opening with n = 3, and a member in a round past the last, which says nothing and keeps its state whatever it
   -- hears; and calls that are accepted
   pub refused-opening : map (λ n. byCalls largest fcwfa .opening n 3 1 1) (3 ∷ 4 ∷ []) ≡ nobody ∷ opening 4 3 1 1 ∷ []
