@@ -1,6 +1,6 @@
 //! The commit bench and its members, written a second time from document 01, and from document 02 as far as its
-//! requests have landed: so far K1, K2, K3, K4, K6, K7, K8 and K11. Where document 02 changes document 01, document 02
-//! stands.
+//! requests have landed: so far K1, K2, K3, K4, K6, K7, K8, K9 and K11. Where document 02 changes document 01, document
+//! 02 stands.
 //!
 //! The modules follow document 01 in its order. Processes and rounds are numbered from 1, as there; the entry of
 //! process i in a table stands at place i - 1.
@@ -21,6 +21,7 @@ pub mod schedule;
 pub mod silent;
 pub mod so_far;
 pub mod text;
+pub mod why;
 
 /// The largest number of processes.
 pub const LARGEST: usize = 64;

@@ -42,7 +42,7 @@ pub struct Member {
 }
 
 /// How often a code stands in a row.
-fn count(row: &[u8], code: u8) -> usize {
+pub fn count(row: &[u8], code: u8) -> usize {
     row.iter().filter(|heard| **heard == code).count()
 }
 

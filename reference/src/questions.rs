@@ -1,5 +1,5 @@
 //! The numbers of the refusals and the questions that several calls share (document 01, "Questions before work";
-//! document 02, K2: number 18).
+//! document 02, K2: number 18; K9: number 10 asked of a process).
 
 use std::ops::RangeInclusive;
 
@@ -32,7 +32,7 @@ pub enum Refusal {
     TooLong = 8,
     /// Line of its form, nothing after the last?
     Form = 9,
-    /// Own number from 1 to n?
+    /// Own number from 1 to n? And with K9: process number from 1 to n?
     OwnNumber = 10,
     /// State in range?
     State = 11,

@@ -4,8 +4,9 @@ use std::path::PathBuf;
 
 /// What the program says when its arguments are wrong.
 pub const USAGE: &str = "\
-matching [--bench PATH] [--outcome PATH] [--seed S]... [--valid N] [--damaged N] [--tables N] [--outcome-calls N]
-         [--counts N] [--writes N] [--reads N] [--trips N] [--members N] [--runs N] [--skip-small]
+matching [--bench PATH] [--outcome PATH] [--why PATH] [--seed S]... [--valid N] [--damaged N] [--tables N]
+         [--outcome-calls N] [--why-calls N] [--counts N] [--writes N] [--reads N] [--trips N] [--members N] [--runs N]
+         [--skip-small]
 matching --self-test
 matching --help";
 
@@ -16,7 +17,9 @@ const FIRST_SEED: u64 = 1;
 pub fn help() -> String {
     let default = Arguments::default();
     let (valid, damaged) = (default.valid, default.damaged);
-    let (tables, outcome_calls, counts) = (default.tables, default.outcome_calls, default.counts);
+    let (tables, outcome_calls, why_calls) =
+        (default.tables, default.outcome_calls, default.why_calls);
+    let counts = default.counts;
     let (writes, reads, trips) = (default.writes, default.reads, default.trips);
     let (members, runs) = (default.members, default.runs);
     format!(
@@ -27,11 +30,13 @@ Puts the same input through the proved code and through the reference, and compa
 
   --bench PATH        the compiled bench, for the texts; without it none go through it
   --outcome PATH      the compiled outcome, for the same texts; without it none go through it
+  --why PATH          the compiled why, for the same texts; without it none go through it
   --seed S            fixes everything random; all of it is done for each seed that is given [{FIRST_SEED}]
   --valid N           how many texts of accepted schedules [{valid}]
   --damaged N         how many damaged texts that are refused [{damaged}]
   --tables N          how many calls on tables [{tables}]
   --outcome-calls N   how many calls for the outcome [{outcome_calls}]
+  --why-calls N       how many calls for why a process decided [{why_calls}]
   --counts N          how many counts of crashes [{counts}]
   --writes N          how many schedules written into a buffer [{writes}]
   --reads N           how many texts read into tables [{reads}]
@@ -62,6 +67,8 @@ pub struct Arguments {
     pub bench: Option<PathBuf>,
     /// The compiled `outcome`; without it no texts go through it.
     pub outcome: Option<PathBuf>,
+    /// The compiled `why`; without it no texts go through it.
+    pub why: Option<PathBuf>,
     /// Everything random is done for each seed.
     pub seeds: Vec<u64>,
     /// How many texts of accepted schedules.
@@ -72,6 +79,8 @@ pub struct Arguments {
     pub tables: u64,
     /// How many calls for the outcome.
     pub outcome_calls: u64,
+    /// How many calls for why a process decided.
+    pub why_calls: u64,
     /// How many counts of crashes.
     pub counts: u64,
     /// How many schedules written into a buffer.
@@ -95,11 +104,13 @@ impl Default for Arguments {
             self_test: false,
             bench: None,
             outcome: None,
+            why: None,
             seeds: Vec::new(),
             valid: 4_000,
             damaged: 4_000,
             tables: 200_000,
             outcome_calls: 120_000,
+            why_calls: 123_000,
             counts: 1_000_000,
             writes: 60_000,
             reads: 80_000,
@@ -150,11 +161,13 @@ fn set(arguments: &mut Arguments, name: &str, value: &str) -> Result<(), String>
     match name {
         "--bench" => arguments.bench = Some(PathBuf::from(value)),
         "--outcome" => arguments.outcome = Some(PathBuf::from(value)),
+        "--why" => arguments.why = Some(PathBuf::from(value)),
         "--seed" => arguments.seeds.push(number()?),
         "--valid" => arguments.valid = number()?,
         "--damaged" => arguments.damaged = number()?,
         "--tables" => arguments.tables = number()?,
         "--outcome-calls" => arguments.outcome_calls = number()?,
+        "--why-calls" => arguments.why_calls = number()?,
         "--counts" => arguments.counts = number()?,
         "--writes" => arguments.writes = number()?,
         "--reads" => arguments.reads = number()?,
@@ -187,17 +200,19 @@ mod tests {
     fn values_are_taken() {
         let line = "--bench x --seed 5 --valid 1 --seed 6 --damaged 2 --tables 3 --counts 4 \
                     --members 5 --runs 6 --writes 7 --reads 8 --trips 9 --outcome y \
-                    --outcome-calls 10 --skip-small";
+                    --outcome-calls 10 --why z --why-calls 11 --skip-small";
         let expected = Arguments {
             help: false,
             self_test: false,
             bench: Some(PathBuf::from("x")),
             outcome: Some(PathBuf::from("y")),
+            why: Some(PathBuf::from("z")),
             seeds: vec![5, 6],
             valid: 1,
             damaged: 2,
             tables: 3,
             outcome_calls: 10,
+            why_calls: 11,
             counts: 4,
             writes: 7,
             reads: 8,
@@ -239,6 +254,7 @@ mod tests {
             "[4000]",
             "[200000]",
             "[120000]",
+            "[123000]",
             "[1000000]",
             "[60000]",
             "[80000]",

@@ -5,6 +5,7 @@ use std::thread;
 
 use reference::silent::Settings;
 use reference::so_far::Equalities;
+use reference::why::WORDS;
 
 /// How many differences are kept in full.
 const KEPT: usize = 3;
@@ -14,6 +15,9 @@ const LAST_NUMBER: usize = 18;
 
 /// The threads that share the cases.
 const THREADS: u64 = 2;
+
+/// How often each rule is named for a process, each at the place of its kind.
+pub type Rules = [u64; WORDS.len()];
 
 /// How often a kind of case was accepted and refused.
 #[derive(Clone, Copy, Debug, Default)]
@@ -38,6 +42,8 @@ pub struct Findings {
     pub equalities: Equalities,
     /// How often their rows set the silent processes.
     pub settings: Settings,
+    /// How often each rule is named for a process.
+    pub rules: Rules,
     /// The first differences in full, each with the number of its case.
     pub differences: Vec<(u64, String)>,
     /// How often each refusal number was met.
@@ -102,6 +108,9 @@ impl Findings {
         self.broken += other.broken;
         self.equalities += other.equalities;
         self.settings += other.settings;
+        for (rule, more) in self.rules.iter_mut().zip(other.rules) {
+            *rule += more;
+        }
         for (met, more) in self.met.iter_mut().zip(other.met) {
             *met += more;
         }

@@ -26,6 +26,8 @@ pub mod tables;
 pub mod texts;
 pub mod trips;
 pub mod whole;
+pub mod whys;
 pub mod writes;
 pub mod wrong;
 pub mod wrong_outcomes;
+pub mod wrong_whys;

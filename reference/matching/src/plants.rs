@@ -2,12 +2,11 @@
 
 use reference::demand3::message_limit;
 use reference::member::Member;
-use reference::outcome;
 use reference::report::answer;
 use reference::run::{Run, NONE};
 use reference::schedule::{bit, Schedule};
 use reference::so_far::{crashes_by, settling_round, Rule, RULE};
-use reference::LARGEST;
+use reference::{outcome, why, LARGEST};
 
 use crate::crashes::{self, CountCrashes};
 use crate::files::{self, ReadBy, Text, WriteBy, ACCEPTED, BUFFERS, IN_LONGER, QUESTIONS, TEXTS};
@@ -18,16 +17,20 @@ use crate::outcomes::{self, Tell};
 use crate::random::Random;
 use crate::reads::{self, Read};
 use crate::silent::{self, HighestFirst, IN_ANY_STATE, IN_RUNS, TAKEN};
+use crate::small::Through;
 use crate::summary::{spelled, Summary};
 use crate::tables::{self, by_reference, Simulate};
 use crate::texts::{self, Prints, Program};
-use crate::whole::{check_kinds, check_lengths, check_sizes};
-use crate::whole::{check_small_count, check_small_equalities, check_small_settings};
+use crate::whole::check_small_settings;
+use crate::whole::{check_kinds, check_lengths, check_rules, check_sizes};
+use crate::whole::{check_small_count, check_small_equalities, check_small_rules};
+use crate::whys::{self, Explain};
 use crate::writes::{self, Write};
 use crate::wrong::{self, Change, Hear, Take, Wrong, COUNTS, CRASHES, ENDS, FIRSTS, RIGHT, TURNS};
 use crate::wrong::{LOOSE, RULES, STOPPING};
 use crate::wrong_outcomes::{self, AnswerBy, OutcomeBy, Print, TellBy};
 use crate::wrong_outcomes::{ASKED, PRINTED, REFUSALS, TAKES, WRITTEN};
+use crate::wrong_whys::{self, ExplainBy, WhyBy};
 use crate::{demands, generate, runs, small, trips};
 
 /// The seed and the counts of the self-test. Every size comes up among the finished runs, those of members and the
@@ -40,6 +43,7 @@ const DAMAGED: u64 = 1_400;
 const STEP: usize = 97;
 const TABLES: u64 = 9_000;
 const OUTCOMES: u64 = 200 * outcomes::KINDS as u64;
+const WHYS: u64 = 100 * whys::KINDS as u64;
 const CRASH_COUNTS: u64 = 2 * (crashes::KINDS.len() * crashes::LENGTHS) as u64;
 const WRITES: u64 = 200 * writes::KINDS as u64;
 const READS: u64 = 100 * reads::KINDS as u64;
@@ -112,16 +116,22 @@ pub fn controls() -> Vec<Plant> {
     const NAME: &str = "nothing planted";
     let right = |text: &[u8]| Ok(answer(text));
     let right_outcome = |text: &[u8]| Ok(outcome::answer(text));
+    let right_why = |text: &[u8]| Ok(why::answer(text));
     vec![
         sized(NAME, SIZES, &right),
         damaged(NAME, &right),
         sized_outcome(NAME, SIZES, &right_outcome),
         damaged_outcome(NAME, &right_outcome),
+        sized_why(NAME, SIZES, &right_why),
+        damaged_why(NAME, &right_why),
         every_nth(NAME, &by_reference),
+        every_nth_told(NAME, &outcomes::by_reference),
+        every_nth_explained(NAME, &whys::by_reference),
         promised(NAME, Member::after, unchanged),
         met_with_equality(NAME, &RULE),
         called(NAME, &by_reference),
         told(NAME, &outcomes::by_reference),
+        explained(NAME, &whys::by_reference),
         counted(NAME, &crashes::by_reference),
         schedules_written(NAME, &writes::by_reference),
         texts_read(NAME, &reads::by_reference),
@@ -140,6 +150,9 @@ pub fn plants() -> Vec<Plant> {
     plants.extend(in_outcomes());
     plants.extend(in_outcome_calls());
     plants.extend(in_outcome_texts());
+    plants.extend(in_whys());
+    plants.extend(in_why_calls());
+    plants.extend(in_why_texts());
     plants.extend(in_crash_counts());
     plants.extend(in_writes());
     plants.extend(in_reads());
@@ -154,16 +167,19 @@ pub fn plants() -> Vec<Plant> {
 }
 
 /// Faults other than differences: a refusal number that is never met, a schedule left out, a row left out that sets the
-/// silent processes, a size left out, a length left out, a kind left out, and rules of the crashes so far that no run
-/// breaks.
+/// silent processes, a process left out for which a rule is named, a rule that is never named, a size left out, a length
+/// left out, a kind left out, and rules of the crashes so far that no run breaks.
 pub fn faults() -> Vec<Plant> {
     let right = |text: &[u8]| Ok(answer(text));
     let right_outcome = |text: &[u8]| Ok(outcome::answer(text));
+    let right_why = |text: &[u8]| Ok(why::answer(text));
     let few = texts::compare_damaged(SEED, 3, Prints::Report, &right);
     let mut left_out = every_nth("schedules left out", &by_reference);
     check_small_count(&mut left_out.summary, &left_out.findings);
     let mut fewer_rows = every_nth("rows that set the silent left out", &by_reference);
     check_small_settings(&mut fewer_rows.summary, &fewer_rows.findings);
+    let mut fewer_whys = every_nth_explained("processes left out", &whys::by_reference);
+    check_small_rules(&mut fewer_whys.summary, &fewer_whys.findings);
     let too_few = CRASH_COUNTS / 2 - crashes::KINDS.len() as u64;
     let short = counted_times("one length left out", too_few, &crashes::by_reference);
     let name = "refusal numbers never met";
@@ -171,12 +187,15 @@ pub fn faults() -> Vec<Plant> {
         Plant::new("damaged texts", name, few, &texts::NUMBERS),
         left_out,
         fewer_rows,
+        fewer_whys,
         sized("one size left out", SIZES - 1, &right),
         sized_outcome("one size left out", SIZES - 1, &right_outcome),
+        sized_why("one size left out", SIZES - 1, &right_why),
         in_run_times("one size left out", SIZES - 1, &RIGHT),
         short,
     ];
     faults.extend(few_outcomes());
+    faults.extend(few_whys());
     faults.extend(few_files());
     let loose = LOOSE.into_iter();
     faults.extend(loose.map(|(name, rule)| met_with_equality(name, &rule)));
@@ -192,6 +211,22 @@ fn few_outcomes() -> [Plant; 2] {
     check_kinds(&mut kinds.summary, part, &kinds.findings);
     let never = Plant::new(part, "refusal numbers never met", few(3), &numbers);
     [never, kinds]
+}
+
+/// Too few calls for why.
+fn few_whys() -> [Plant; 4] {
+    let few = |count| whys::compare(SEED, count, &whys::by_reference);
+    let (part, numbers) = ("calls for why", whys::NUMBERS);
+    let all_but_one = few(whys::KINDS as u64 - 1);
+    let mut kinds = Plant::new(part, "one kind left out", all_but_one, &[]);
+    check_kinds(&mut kinds.summary, part, &kinds.findings);
+    let never = Plant::new(part, "refusal numbers never met", few(3), &numbers);
+    let mut rules = Plant::new(part, "rules never named", few(3), &[]);
+    check_rules(&mut rules.summary, part, &rules.findings);
+    let right_why = |text: &[u8]| Ok(why::answer(text));
+    let mut in_texts = valid_why_times("rules never named", 3, &right_why);
+    check_rules(&mut in_texts.summary, in_texts.part, &in_texts.findings);
+    [never, kinds, rules, in_texts]
 }
 
 /// Too few writings, readings and round trips.
@@ -354,6 +389,69 @@ fn in_outcome_texts() -> Vec<Plant> {
         "the report printed",
         &wrong_outcomes::report_printed,
     ));
+    plants
+}
+
+/// The wrong rules and numbers that document 02's K9 invites, in every part that names them, but for those that need larger
+/// clusters; and the wrong turns of hearing.
+fn in_whys() -> Vec<Plant> {
+    let of_take = |(name, take): (&'static str, WhyBy)| {
+        let explain = wrong_whys::taking(take);
+        [
+            valid_why(name, &wrong_whys::program_taking(take)),
+            explained(name, &explain),
+        ]
+    };
+    let with_n_4 = |(name, take): (&'static str, WhyBy)| {
+        let explain = wrong_whys::taking(take);
+        every_nth_explained(name, &explain)
+    };
+    let of_turn = |(name, hear): (&'static str, Hear)| {
+        let explain = wrong_whys::hearing(hear);
+        [
+            every_nth_explained(name, &explain),
+            explained(name, &explain),
+        ]
+    };
+    let takes = wrong_whys::TAKES.into_iter();
+    let all_takes = takes.clone().chain(wrong_whys::LARGER_TAKES);
+    let mut plants: Vec<Plant> = all_takes.flat_map(of_take).collect();
+    plants.extend(takes.map(with_n_4));
+    plants.extend(TURNS.into_iter().flat_map(of_turn));
+    let (name, take) = wrong_whys::IN_SIX_BITS;
+    plants.push(explained(name, &wrong_whys::taking(take)));
+    plants
+}
+
+/// The wrong calls for why that it invites, and those that K11 does.
+fn in_why_calls() -> Vec<Plant> {
+    let of_explain = |(name, explain): (&'static str, ExplainBy)| explained(name, &explain);
+    let refusing =
+        |(name, refuse): (&'static str, Refuse)| explained(name, &wrong_whys::refusing(refuse));
+    let cutting = |(name, cut): (&'static str, Cut)| explained(name, &wrong_whys::cutting(cut));
+    let estimates = wrong_whys::hearing(limits::estimates_in_six_bits);
+    let calls = wrong_whys::WRITTEN.into_iter().chain(wrong_whys::ASKED);
+    let mut plants: Vec<Plant> = calls.map(of_explain).collect();
+    plants.extend(REFUSED.into_iter().map(refusing));
+    plants.extend(CUTS.into_iter().map(cutting));
+    plants.push(explained("64 estimates counted in six bits", &estimates));
+    plants
+}
+
+/// The wrong lines that it invites.
+fn in_why_texts() -> Vec<Plant> {
+    let of_print = |(name, print): (&'static str, wrong_whys::Print)| {
+        valid_why(name, &wrong_whys::printing(print))
+    };
+    let of_refusal = |(name, answer): (&'static str, AnswerBy)| {
+        damaged_why(name, &move |text: &[u8]| Ok(answer(text)))
+    };
+    let of_other = |(name, answer): (&'static str, AnswerBy)| {
+        valid_why(name, &move |text: &[u8]| Ok(answer(text)))
+    };
+    let mut plants: Vec<Plant> = wrong_whys::PRINTED.into_iter().map(of_print).collect();
+    plants.extend(wrong_whys::REFUSALS.into_iter().map(of_refusal));
+    plants.extend(wrong_whys::OTHERS.into_iter().map(of_other));
     plants
 }
 
@@ -600,15 +698,43 @@ fn damaged_outcome(name: &'static str, program: Program) -> Plant {
     Plant::new("damaged texts, outcome", name, findings, &texts::NUMBERS)
 }
 
+/// The same texts through a program that prints why each process decided.
+fn valid_why(name: &'static str, program: Program) -> Plant {
+    valid_why_times(name, VALID, program)
+}
+
+fn sized_why(name: &'static str, count: u64, program: Program) -> Plant {
+    let mut plant = valid_why_times(name, count, program);
+    check_sizes(&mut plant.summary, plant.part, &plant.findings);
+    check_rules(&mut plant.summary, plant.part, &plant.findings);
+    plant
+}
+
+fn valid_why_times(name: &'static str, count: u64, program: Program) -> Plant {
+    let findings = texts::compare_valid(SEED, count, Prints::Why, program);
+    Plant::new("valid texts, why", name, findings, &[])
+}
+
+fn damaged_why(name: &'static str, program: Program) -> Plant {
+    let findings = texts::compare_damaged(SEED, DAMAGED, Prints::Why, program);
+    Plant::new("damaged texts, why", name, findings, &texts::NUMBERS)
+}
+
 fn every_nth(name: &'static str, simulate: Simulate) -> Plant {
-    let findings = small::compare(STEP, simulate, &outcomes::by_reference);
+    let findings = small::compare(STEP, &[Through::Run(simulate)]);
     Plant::new("n = 4, t = 3", name, findings, &[])
 }
 
-/// The same schedules, with the difference in the call for the outcome.
+/// The same schedules through the call for the outcome.
 fn every_nth_told(name: &'static str, tell: Tell) -> Plant {
-    let findings = small::compare(STEP, &by_reference, tell);
+    let findings = small::compare(STEP, &[Through::Outcome(tell)]);
     Plant::new("n = 4, t = 3, outcome", name, findings, &[])
+}
+
+/// The same schedules through the call for why.
+fn every_nth_explained(name: &'static str, explain: Explain) -> Plant {
+    let findings = small::compare(STEP, &[Through::Why(explain)]);
+    Plant::new("n = 4, t = 3, why", name, findings, &[])
 }
 
 fn called(name: &'static str, simulate: Simulate) -> Plant {
@@ -620,6 +746,14 @@ fn told(name: &'static str, tell: Tell) -> Plant {
     let findings = outcomes::compare(SEED, OUTCOMES, tell);
     let mut plant = Plant::new("calls for the outcome", name, findings, &outcomes::NUMBERS);
     check_kinds(&mut plant.summary, plant.part, &plant.findings);
+    plant
+}
+
+fn explained(name: &'static str, explain: Explain) -> Plant {
+    let findings = whys::compare(SEED, WHYS, explain);
+    let mut plant = Plant::new("calls for why", name, findings, &whys::NUMBERS);
+    check_kinds(&mut plant.summary, plant.part, &plant.findings);
+    check_rules(&mut plant.summary, plant.part, &plant.findings);
     plant
 }
 

@@ -1,4 +1,4 @@
-//! A compiled program, `bench` or `outcome`: a process for each text.
+//! A compiled program, `bench`, `outcome` or `why`: a process for each text.
 
 use std::io::{ErrorKind, Write};
 use std::path::Path;

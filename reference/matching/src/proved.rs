@@ -8,6 +8,7 @@ use reference::schedule::Schedule;
 use crate::members::{Machine, State};
 use crate::outcomes::Lent;
 use crate::reads::{Numbers, Tables};
+use crate::whys;
 
 // The libraries and the reference take the same clusters. Their sets have the same type, or no reach could be passed.
 const _: () = assert!(fcwfa::LARGEST == reference::LARGEST);
@@ -43,6 +44,19 @@ pub fn outcome(schedule: &Schedule, lent: &mut Lent) -> Result<(), u8> {
         &schedule.votes,
         &schedule.crashes,
         &schedule.reaches,
+        lent,
+    )
+}
+
+/// The call for why a process decided.
+pub fn why(schedule: &Schedule, id: usize, lent: &mut whys::Lent) -> Result<(), u8> {
+    bytes::why(
+        schedule.n,
+        schedule.t,
+        &schedule.votes,
+        &schedule.crashes,
+        &schedule.reaches,
+        id,
         lent,
     )
 }

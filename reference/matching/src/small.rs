@@ -2,16 +2,18 @@
 
 use reference::outcome::of_run;
 use reference::questions::Refusal;
-use reference::run::run_heard;
+use reference::run::{run_heard, Run};
 use reference::schedule::Schedule;
 use reference::silent::Settings;
 use reference::so_far::{Equalities, Rule};
+use reference::why::of_all;
 use reference::Set;
 
 use crate::demands;
-use crate::findings::{share, Findings};
+use crate::findings::{share, Findings, Rules};
 use crate::outcomes::{self, Tell};
 use crate::tables::{compare_answers, Answer, Call, Simulate};
+use crate::whys::{self, Explain};
 
 /// How many there are: 16 votes, and 33 ways for each process to crash or not, without those where all four crash.
 pub const COUNT: u64 = 2_197_520;
@@ -84,19 +86,67 @@ pub const SETTINGS: Settings = Settings {
     not_named: 1_662_528,
 };
 
+/// How often each rule is named for their processes, all together; in the order of the words: crashed, told, zeros, quiet,
+/// round-t, last.
+///
+/// They are also worked by hand, from document 01, and with the numbers above.
+///
+/// In round 2 each of 16 * 346564 rows finds its member undecided. With a vote 0 all estimates are 0 after round 1, so that
+/// zeros only is named for every row: 15 * 346564 = 5198460. Now let all votes be 1. Whoever completes round 2 undecided is
+/// one of U, by how many crash in rounds 1 and 2, and what is left for the others (817 ways for three of them, 17^2 - 16^2 =
+/// 33 for two, and 1 for one):
+///
+/// - 1, 0 and 0, 1: 107844, as above;
+/// - 2, 0: 6 * 28 * 2 * 33 = 11088; 1, 1: 12 * (50 * 2 + 4) * 33 = 41184; 0, 2: 6 * (36 * 2 + 24) * 33 = 19008;
+/// - three in all: 8576, as above.
+///
+/// So U = 187700. A quiet round is round 2 with four estimates: nobody crashes in round 1, so that all of them are 1, and
+/// whoever crashes in round 2 reaches the hearer, 4 ways. If the hearer survives, these are (1 + 16 + 4)^3; if it crashes
+/// later, 16 * (21^3 - 20^3). So 4 * (9261 + 16 * 1261) = 117748. The other rows of round 2 are of zeros only, 346564 -
+/// 187700 - 117748 = 41116. This is also the sum over those that are not undecided above and had a crash in round 1:
+///
+/// - 1, 0: the empty reach, 4 * 3 * 817 = 9804; 2, 0: 6 * 36 * 2 * 33 = 14256; 1, 1: 12 * (10 * 2 + 4) * 33 = 9504;
+/// - three in all: 4 * (1536 - 1104 + 1536 - 528 + 512 - 64) = 7552.
+///
+/// Of U those that complete round 3 hear a decided message there, or one of the 114224 rows above. In 19328 of these rows
+/// the own estimate is alone, and the last round decides; in the others round t does: 94896. Whoever completes round 2
+/// undecided while another one decides completes round 3 in 553 ways with three left, and in 25 with two:
+///
+/// - 0, 1: 4 * 12 * 553 = 26544, of which 9228 set the silent processes: 17316 are told;
+/// - 1, 1: 12 * 4 * (25 - 4) = 1008; 0, 2: 6 * 24 * (25 - 4) = 3024.
+///
+/// So 21348 are told. Nobody is in round 4: whoever is undecided then is alone. Those that crash in round 1 or 2 are
+/// 16 * 4 * 16 * 3169 = 3245056, and of U those crash undecided in round 3 that don't complete it: 187700 - 21348 - 114224 =
+/// 52128. So 3297184 have crashed; and all six together are four times the number of schedules.
+pub const RULES: Rules = [3_297_184, 21_348, 5_239_576, 117_748, 94_896, 19_328];
+
 const N: usize = 4;
 const T: usize = 3;
 
 /// Vote, crash round and reach of one process.
 type Choice = (u8, u8, Set);
 
-/// The calls that each schedule is put through, by name: each gives an answer.
-pub const CALLS: [&str; 2] = ["the whole run", "the outcome"];
+/// The calls that each schedule can be put through, by name.
+pub const CALLS: [&str; 3] = ["the whole run", "the outcome", "why, each process"];
 
-/// Compares every `step`-th accepted schedule, so each one if `step` is 1, through both calls.
-pub fn compare(step: usize, simulate: Simulate, tell: Tell) -> Findings {
+/// How many answers they give together for each schedule: one each, and why for each process.
+pub const ANSWERS: u64 = 2 + N as u64;
+
+/// A call under test.
+#[derive(Clone, Copy)]
+pub enum Through<'a> {
+    /// The whole run.
+    Run(Simulate<'a>),
+    /// The outcome.
+    Outcome(Tell<'a>),
+    /// Why, for each process.
+    Why(Explain<'a>),
+}
+
+/// Compares every `step`-th accepted schedule, so each one if `step` is 1, through these calls.
+pub fn compare(step: usize, calls: &[Through]) -> Findings {
     share_schedules(step, |findings, case, schedule| {
-        compare_one(findings, case, schedule, simulate, tell);
+        compare_one(findings, case, schedule, calls);
     })
 }
 
@@ -169,19 +219,38 @@ fn for_each_from(
     }
 }
 
-fn compare_one(
+fn compare_one(findings: &mut Findings, case: u64, schedule: &Schedule, calls: &[Through]) {
+    let (run, hearings) = run_heard(schedule).expect("the schedule is accepted");
+    demands::check(findings, case, schedule, &run, &hearings);
+    for call in calls {
+        match call {
+            Through::Run(simulate) => {
+                findings.count(0, None);
+                compare_run(findings, case, schedule, &run, *simulate);
+            }
+            Through::Outcome(tell) => {
+                findings.count(1, None);
+                outcomes::compare_accepted(findings, case, schedule, of_run(&run), *tell);
+            }
+            Through::Why(explain) => {
+                let whys = of_all(schedule, &run, &hearings);
+                for _ in &whys {
+                    findings.count(2, None);
+                }
+                whys::compare_accepted(findings, case, schedule, &whys, *explain);
+            }
+        }
+    }
+}
+
+/// Compares the whole run of a schedule.
+fn compare_run(
     findings: &mut Findings,
     case: u64,
     schedule: &Schedule,
+    run: &Run,
     simulate: Simulate,
-    tell: Tell,
 ) {
-    let (run, hearings) = run_heard(schedule).expect("the schedule is accepted");
-    demands::check(findings, case, schedule, &run, &hearings);
-    for call in 0..CALLS.len() {
-        findings.count(call, None);
-    }
-    outcomes::compare_accepted(findings, case, schedule, of_run(&run), tell);
     let call = Call {
         schedule: schedule.clone(),
         decisions: vec![9; N],
@@ -190,8 +259,8 @@ fn compare_one(
     let found = call.answer(simulate);
     let expected = Answer {
         counts: Ok(run.counts),
-        decisions: run.decisions,
-        rounds: run.rounds,
+        decisions: run.decisions.clone(),
+        rounds: run.rounds.clone(),
     };
     compare_answers(findings, case, &call, &expected, &found);
 }

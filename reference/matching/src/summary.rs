@@ -2,9 +2,10 @@
 
 use reference::silent::Settings;
 use reference::so_far::Equalities;
+use reference::why::WORDS;
 use reference::LONGEST;
 
-use crate::findings::{Findings, Kind};
+use crate::findings::{Findings, Kind, Rules};
 
 /// What all parts found together.
 #[derive(Clone, Debug, Default)]
@@ -75,6 +76,9 @@ pub fn print_part(heading: &str, names: &[&str], findings: &Findings, numbers: &
         println!("  {}", equality_words(findings.equalities));
         println!("  {}", setting_words(findings.settings));
     }
+    if findings.rules != Rules::default() {
+        println!("  {}", rule_words(&findings.rules));
+    }
     println!(
         "  answers: {} equal, {} different",
         findings.compared - findings.differ,
@@ -117,6 +121,15 @@ pub fn equality_words(Equalities { before_t, in_t }: Equalities) -> String {
 pub fn setting_words(settings: Settings) -> String {
     let (rows, named, not_named) = (settings.rows, settings.named, settings.not_named);
     format!("silent processes: set by {rows} rows; of those crashing in the round {named} named, {not_named} not")
+}
+
+/// How often each rule is named for a process.
+pub fn rule_words(rules: &Rules) -> String {
+    let named = WORDS.iter().zip(rules);
+    let named: Vec<String> = named
+        .map(|(word, count)| format!("{word} {count}"))
+        .collect();
+    format!("rules named: {}", named.join(", "))
 }
 
 /// The counts of a kind in words.

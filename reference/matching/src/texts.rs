@@ -1,10 +1,11 @@
-//! Texts through a program, `bench` or `outcome`, and through the reference, byte for byte.
+//! Texts through a program, `bench`, `outcome` or `why`, and through the reference, byte for byte.
 
-use reference::outcome::{lines, of_run};
+use reference::outcome;
 use reference::report::{refusal, report};
-use reference::run::{run_heard, Run};
+use reference::run::{run_heard, Hearing, Run};
 use reference::schedule::Schedule;
 use reference::text::{read, write};
+use reference::why;
 
 use crate::damage::{damaged, DAMAGES};
 use crate::demands;
@@ -15,21 +16,36 @@ use crate::random::Random;
 /// The program under test: what it prints for a text, or in words why there is no answer.
 pub type Program<'a> = &'a (dyn Fn(&[u8]) -> Result<Vec<u8>, String> + Sync);
 
-/// What a program prints for an accepted schedule. A refused text gets the same lines from both.
+/// What a program prints for an accepted schedule. A refused text gets the same lines from all.
 #[derive(Clone, Copy, Debug, PartialEq, Eq)]
 pub enum Prints {
     /// The report, as `bench` does.
     Report,
     /// The outcome, as `outcome` does.
     Outcome,
+    /// Why each process decided, as `why` does.
+    Why,
 }
 
 impl Prints {
-    /// The lines for a schedule with its finished run.
-    fn lines(self, schedule: &Schedule, run: &Run) -> Vec<u8> {
+    /// The lines for a schedule with its finished run and the hearings of it. Where rules are named, they are counted.
+    fn lines(
+        self,
+        findings: &mut Findings,
+        schedule: &Schedule,
+        run: &Run,
+        hearings: &[Hearing],
+    ) -> Vec<u8> {
         match self {
             Prints::Report => report(schedule, run),
-            Prints::Outcome => lines(of_run(run)),
+            Prints::Outcome => outcome::lines(outcome::of_run(run)),
+            Prints::Why => {
+                let whys = why::of_all(schedule, run, hearings);
+                for why in &whys {
+                    findings.rules[why.numbers()[0]] += 1;
+                }
+                why::lines(&whys)
+            }
         }
     }
 }
@@ -84,12 +100,13 @@ fn compare(
         Ok(schedule) => {
             let heard = run_heard(&schedule);
             let (run, hearings) = heard.expect("the reader asks every question of a run");
-            // Both programs get the same texts, whose runs are held against what is promised once.
+            // All programs get the same texts, whose runs are held against what is promised once.
             if prints == Prints::Report {
                 demands::check(findings, case, &schedule, &run, &hearings);
             }
             findings.sizes.insert((schedule.n, schedule.t));
-            (prints.lines(&schedule, &run), None)
+            let lines = prints.lines(findings, &schedule, &run, &hearings);
+            (lines, None)
         }
     };
     findings.count(kind, number);

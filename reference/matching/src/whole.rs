@@ -2,13 +2,16 @@
 
 use std::path::Path;
 
+use reference::why::WORDS;
+
 use crate::arguments::Arguments;
 use crate::findings::Findings;
-use crate::proved::{count_crashes, outcome, read_schedule, simulate, write_schedule, Proved};
-use crate::summary::{equality_words, print_part, setting_words, Summary};
+use crate::proved::{count_crashes, outcome, read_schedule, simulate, why, write_schedule, Proved};
+use crate::small::Through;
+use crate::summary::{equality_words, print_part, rule_words, setting_words, Summary};
 use crate::texts::Prints;
 use crate::{crashes, damage, generate, members, outcomes, program, reads, runs, small, tables};
-use crate::{texts, trips, writes};
+use crate::{texts, trips, whys, writes};
 
 /// Does everything that the arguments ask for, prints what is found, and gives the sum.
 pub fn run(arguments: &Arguments) -> Summary {
@@ -16,6 +19,7 @@ pub fn run(arguments: &Arguments) -> Summary {
     let programs = [
         ("bench", &arguments.bench, Prints::Report),
         ("outcome", &arguments.outcome, Prints::Outcome),
+        ("why", &arguments.why, Prints::Why),
     ];
     for (name, path, prints) in programs {
         match path {
@@ -36,6 +40,7 @@ pub fn run(arguments: &Arguments) -> Summary {
     for seed in &arguments.seeds {
         match_tables(&mut summary, *seed, arguments.tables);
         match_outcomes(&mut summary, *seed, arguments.outcome_calls);
+        match_whys(&mut summary, *seed, arguments.why_calls);
         match_counts(&mut summary, *seed, arguments.counts);
         match_writes(&mut summary, *seed, arguments.writes);
         match_reads(&mut summary, *seed, arguments.reads);
@@ -96,6 +101,9 @@ fn match_texts(summary: &mut Summary, seed: u64, arguments: &Arguments, compiled
         let names = names(&generate::FAMILIES);
         add(summary, &heading, &names, &findings, &[]);
         check_sizes(summary, &part, &findings);
+        if prints == Prints::Why {
+            check_rules(summary, &part, &findings);
+        }
     }
     let part = format!("damaged texts through {name}");
     if asked(&part, arguments.damaged) {
@@ -107,18 +115,23 @@ fn match_texts(summary: &mut Summary, seed: u64, arguments: &Arguments, compiled
 }
 
 fn match_small(summary: &mut Summary) {
-    let findings = small::compare(1, &simulate, &outcome);
-    let heading = "all schedules with n = 4, t = 3, through two calls";
+    let calls = [
+        Through::Run(&simulate),
+        Through::Outcome(&outcome),
+        Through::Why(&why),
+    ];
+    let findings = small::compare(1, &calls);
+    let heading = "all schedules with n = 4, t = 3, through three calls";
     add(summary, heading, &small::CALLS, &findings, &[]);
     check_small_count(summary, &findings);
     check_small_equalities(summary, &findings);
     check_small_settings(summary, &findings);
+    check_small_rules(summary, &findings);
 }
 
-/// The schedules with n = 4 and t = 3 have to be all that there are, with an answer from each call.
+/// The schedules with n = 4 and t = 3 have to be all that there are, with the answers from each call.
 pub fn check_small_count(summary: &mut Summary, findings: &Findings) {
-    let calls = small::CALLS.len() as u64;
-    let (expected, found) = (calls * small::COUNT, findings.compared);
+    let (expected, found) = (small::ANSWERS * small::COUNT, findings.compared);
     if found != expected {
         summary.fault(format!(
             "{found} answers for the schedules with n = 4, t = 3, not {expected}"
@@ -150,6 +163,18 @@ pub fn check_small_settings(summary: &mut Summary, findings: &Findings) {
     }
 }
 
+/// Each rule has to be named for the processes of the schedules with n = 4 and t = 3 as often as it is. The reference's own
+/// answers would not show that it names a wrong one.
+pub fn check_small_rules(summary: &mut Summary, findings: &Findings) {
+    if findings.rules != small::RULES {
+        let expected = rule_words(&small::RULES);
+        let found = rule_words(&findings.rules);
+        summary.fault(format!(
+            "n = 4, t = 3: {found}; not as expected: {expected}"
+        ));
+    }
+}
+
 fn match_tables(summary: &mut Summary, seed: u64, count: u64) {
     if asked("calls on tables", count) {
         let findings = tables::compare(seed, count, &simulate);
@@ -171,6 +196,27 @@ fn match_outcomes(summary: &mut Summary, seed: u64, count: u64) {
         add(summary, &heading, &names, &findings, &outcomes::NUMBERS);
         check_sizes(summary, "calls for the outcome", &findings);
         check_kinds(summary, "calls for the outcome", &findings);
+    }
+}
+
+fn match_whys(summary: &mut Summary, seed: u64, count: u64) {
+    if asked("calls for why", count) {
+        let findings = whys::compare(seed, count, &why);
+        let heading = format!("calls for why, seed {seed}, {}", sizes_met(&findings));
+        let names = whys::names();
+        add(summary, &heading, &names, &findings, &whys::NUMBERS);
+        check_sizes(summary, "calls for why", &findings);
+        check_kinds(summary, "calls for why", &findings);
+        check_rules(summary, "calls for why", &findings);
+    }
+}
+
+/// Each rule has to be named.
+pub fn check_rules(summary: &mut Summary, part: &str, findings: &Findings) {
+    for (word, count) in WORDS.iter().zip(findings.rules) {
+        if count == 0 {
+            summary.fault(format!("{part}: the rule {word} was never named"));
+        }
     }
 }
 

@@ -10,9 +10,10 @@ pub fn help() -> String {
     format!(
         "\
 Compares the answers of the limit with those of the reference, then measures the proved simulator and the proved call
-for the outcome against both and against each other, and the member's hear and the writer and the reader of a schedule's
-text against the reference, all in one run on the same schedules, and prints tables of each. It takes about 40 seconds;
-docs/PERFORMANCE.md says how to read the tables.
+for the outcome against both and against each other, the proved call for why a process decided against the simulator and
+the reference, and the member's hear and the writer and the reader of a schedule's text against the reference, all in one
+run on the same schedules, and prints tables of each. It takes about 45 seconds; docs/PERFORMANCE.md says how to read the
+tables.
 
 {USAGE}
 

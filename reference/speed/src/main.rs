@@ -1,5 +1,6 @@
 //! How fast the proved code is: the simulator and the call for the outcome against the reference and against a limit, the call for the
-//! outcome against the simulator, and the member's hear and the writer and the reader of a schedule's text against the reference.
+//! outcome and the call for why a process decided against the simulator, and that call, the member's hear and the writer and the reader of
+//! a schedule's text against the reference.
 //!
 //! `speed` compares the limit's answers with the reference's, then measures all in one run on the same schedules. `speed --check` only
 //! compares. docs/PERFORMANCE.md says how to read what is printed.
@@ -12,7 +13,8 @@ mod tables;
 
 use std::process::ExitCode;
 
-use matching::{outcomes, small, tables as calls};
+use matching::small::{self, Through};
+use matching::{outcomes, tables as calls};
 
 use arguments::{help, parse, Task, USAGE};
 
@@ -25,10 +27,14 @@ const STEP: usize = 7;
 
 /// Compares the limit with the reference; true if they never differ.
 fn limit_is_right() -> bool {
+    let small_calls = [
+        Through::Run(&limit::simulate),
+        Through::Outcome(&limit::outcome),
+    ];
     let parts = [
         calls::compare(1, CALLS, &limit::simulate),
         outcomes::compare(1, OUTCOME_CALLS, &limit::outcome),
-        small::compare(STEP, &limit::simulate, &limit::outcome),
+        small::compare(STEP, &small_calls),
     ];
     let compared: u64 = parts.iter().map(|part| part.compared).sum();
     let differ: u64 = parts.iter().map(|part| part.differ).sum();
@@ -60,6 +66,7 @@ fn main() -> ExitCode {
     }
     tables::by_size();
     let slower = tables::by_outcome();
+    tables::by_why();
     tables::by_crashes_borne();
     tables::by_row();
     tables::by_text_written();

@@ -9,6 +9,7 @@ use matching::outcomes::{self, Tell};
 use matching::proved;
 use matching::reads::{self, Read, Tables};
 use matching::tables::{by_reference, Simulate};
+use matching::whys::{self, Explain};
 use matching::writes::{self, Write};
 use reference::questions::SIZES;
 use reference::schedule::Schedule;
@@ -16,7 +17,7 @@ use reference::LARGEST;
 
 use crate::limit;
 use crate::measure::fastest;
-use crate::schedules::{hearings, spread, texts};
+use crate::schedules::{hearings, spread, texts, COUNT};
 
 /// The sizes that are measured: the smallest, and each twice the one before, as far as they are possible.
 fn sizes() -> impl Iterator<Item = usize> {
@@ -104,6 +105,40 @@ pub fn by_outcome() -> Vec<usize> {
         }
     }
     slower
+}
+
+/// Asks of every schedule once why one of its processes decided, each process in turn.
+fn explain_all(schedules: &[Schedule], explain: Explain) {
+    let mut lent = [0; 2];
+    for (case, schedule) in schedules.iter().enumerate() {
+        let id = case % schedule.n + 1;
+        let answer = explain(black_box(schedule), id, &mut lent);
+        black_box(answer).expect("the schedule and the process are accepted");
+        black_box(&lent);
+    }
+}
+
+/// Why one process decided, beside the whole run, over a part of those schedules of each size.
+pub fn by_why() {
+    println!();
+    println!("why a process decided, over a quarter of the spread, and the proved whole run beside it (ns)");
+    println!("   n   proved  whole run  reference  whole run/proved  reference/proved");
+    for n in sizes() {
+        let schedules = &spread(n)[..COUNT / 4];
+        let [proved, whole, reference] = fastest(
+            schedules.len(),
+            [
+                &mut || explain_all(schedules, &proved::why),
+                &mut || run_all(schedules, &proved::simulate),
+                &mut || explain_all(schedules, &whys::by_reference),
+            ],
+        );
+        println!(
+            "{n:4} {proved:8.0} {whole:10.0} {reference:10.0} {:17.2} {:17.2}",
+            whole / proved,
+            reference / proved,
+        );
+    }
 }
 
 /// The largest cluster, which stops after round 3, set up to bear more and more crashes: more rounds are allowed, and none is played.
