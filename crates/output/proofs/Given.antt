@@ -1,25 +1,27 @@
 -- What an accepted schedule's run gives: its counts and tables are those of the report, each decision is 0, 1 or 2, and printing what is given prints
--- the report; and so with its outcome. Assumes nothing.
+-- the report; and so with its outcome and the reasons of its processes. Assumes nothing.
 use mathlib.Core.Path.{_≡_, ap, ap₂, _∙_}
 use mathlib.Core.Logic.{inl, inr}
 use mathlib.Core.List.{List}
 use mathlib.Core.Bool.{Bool, true}
-use Prim.Native.Nat.{ℕ, _≤_, _<_}
+use Prim.Native.Nat.{ℕ, _+_, _≤_, _<_}
 use native.Mathlib.Omega.{arith}
 use borrow.Author.Tests.{eqb-true, eqb-false}
 use lib.ListN.{length, getD}
 use lib.Dec.{eqb}
-use Rattle.laws.specs.Answer.{Answer, accepted, placeAfter}
-use Rattle.laws.proofs.Test.{true-or-false}
+use Rattle.laws.specs.Answer.{Answer, accepted, ask, placeAfter}
+use Rattle.laws.proofs.Test.{true-or-false, cond-true, within-is}
 use Rattle.laws.proofs.Lists.{length-tabulate, read-same}
-use Rattle.laws.proofs.Answer.{answer-accepted, valueOr, place-given}
+use Rattle.laws.proofs.Answer.{answer-accepted, and-then-passes, valueOr, place-given}
 use Rattle.schedule.specs.Schedule.{Schedule}
 use Rattle.schedule.specs.Questions.{question}
 use Rattle.schedule.proofs.Accepted.{question-accepted}
 use Rattle.run.specs.Protocol.{Protocol, fcwfa}
 use Rattle.run.specs.Run.{final}
 use Rattle.run.specs.Report.{Report, roundOf, decisionOf, report}
+use Rattle.run.specs.Why.{whyOf}
 use Rattle.run.proofs.Theorem.{accepted-run}
+use Rattle.explanation.specs.Answers.{whyQuestion, whyAnswer}
 use Rattle.simulator.specs.declared.Counts.{Counts}
 use Rattle.simulator.specs.declared.Outcome.{Outcome}
 use Rattle.simulator.specs.Answers.{countsOf, givenBy, simulateQuestion, simulateAnswer, outcomeOf, outcomeAnswer}
@@ -39,6 +41,13 @@ module _ (limit : ℕ) (s : Schedule) (decisions rounds : List ℕ) (passed : si
 pub outcome-given : (P : Protocol) (limit : ℕ) (s : Schedule) → question s limit true ≡ 0 → outcomeAnswer P limit s ≡ accepted (outcomeOf P s)
 unfolding outcomeAnswer
 outcome-given P limit s passed = answer-accepted _ _ _ passed
+
+-- and each of its processes a reason
+pub reason-given : (limit : ℕ) (s : Schedule) (i : ℕ) → question s limit true ≡ 0 → i < s .n → whyAnswer limit s (i + 1) ≡ accepted (whyOf s i)
+unfolding whyQuestion whyAnswer ask
+reason-given limit s i passed l =
+    answer-accepted _ _ _ (and-then-passes _ _ passed (cond-true _ _ _ (within-is 1 (i + 1) (s .n) (omega arith) (omega arith))))
+    ∙ ap (λ (j : ℕ). accepted (whyOf s j)) (omega arith)
 
 -- the tables of a report have an entry for each process
 module _ (P : Protocol) (s : Schedule) where

@@ -69,6 +69,7 @@ counts written {r} e fits =
 printed-promises : (wanted : Wanted) (text : List ℕ) (s : Schedule) → textAnswer text largest longest ≡ accepted s → Prints wanted s (outputOf (shownOf wanted) text largest longest)
 printed-promises Wanted.Report text s h = Text.prints-promises text largest longest s h
 printed-promises Wanted.Outcome text s h = Text.prints-outcome text largest longest s h
+printed-promises Wanted.Reasons text s h = Text.prints-reasons text largest longest s h
 
 pub keeps-promises : (wanted : Wanted) (text : List ℕ) (r : Output) → r ≡ outputIs (outputOf (shownOf wanted) text largest longest) → OutputKeepsPromises wanted text r
 keeps-promises wanted text r e =

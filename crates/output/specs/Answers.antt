@@ -8,8 +8,8 @@ use Rattle.sets.specs.Largest.{largest}
 use Rattle.schedule.specs.Schedule.{Schedule}
 use Rattle.run.specs.Protocol.{fcwfa}
 use Rattle.text.specs.Reading.{longest, textAnswer}
-use Rattle.text.specs.Output.{reportShown, outcomeShown}
-use Rattle.text.specs.Facts.{PrintsPromises, PrintsOutcome}
+use Rattle.text.specs.Output.{reportShown, outcomeShown, reasonsShown}
+use Rattle.text.specs.Facts.{PrintsPromises, PrintsOutcome, PrintsReasons}
 use Rattle.output.specs.declared.Output.{Output}
 use Rattle.output.specs.declared.Wanted.{Wanted}
 use Rattle.output.specs.declared.Wanted.the-variants as Wanted
@@ -30,11 +30,13 @@ outputIs written = record { bytes = written ++ zeros (outputSize - length writte
 abbrev pub shownOf : Wanted → Schedule → List ℕ
 shownOf Wanted.Report = reportShown fcwfa
 shownOf Wanted.Outcome = outcomeShown fcwfa
+shownOf Wanted.Reasons = reasonsShown
 
 -- and what is promised of it
 abbrev pub Prints : Wanted → Schedule → List ℕ → Type 0
 Prints Wanted.Report = PrintsPromises
 Prints Wanted.Outcome = PrintsOutcome
+Prints Wanted.Reasons = PrintsReasons
 
 -- What is promised of what is printed: wherever the text is accepted, of the bytes that are answered.
 pub record OutputKeepsPromises (wanted : Wanted) (text : List ℕ) (r : Output) : Type 0 where

@@ -1,8 +1,9 @@
-// From a schedule text to the bytes of its report (document 01, "Schedule text and report") or of its outcome
-// (document 02, K6).
+// From a schedule text to the bytes of its report (document 01, "Schedule text and report"), of its outcome
+// (document 02, K6) or of the reasons of its processes (K9).
 //
 // `printed` takes any bytes and answers the whole output: what is wanted of an accepted text, or the three
 // lines of a refusal. It has no `requires`.
+mod reasons;
 mod whole;
 
 ghost use mathlib.Core.Path.{_≡_};
@@ -26,10 +27,12 @@ pub struct Output {
     pub length: usize,
 }
 
-// What is wanted of an accepted text: the program `bench` prints its report, and `outcome` its outcome.
+// What is wanted of an accepted text: the program `bench` prints its report, `outcome` its outcome, and `why`
+// the reasons of its processes.
 pub enum Wanted {
     Report,
     Outcome,
+    Reasons,
 }
 
 // The whole output for a text.

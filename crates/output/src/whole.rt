@@ -1,4 +1,4 @@
-// The kinds of output: the report and the outcome of an accepted schedule, and a refusal.
+// The kinds of output: the report, the outcome and the reasons of an accepted schedule, and a refusal.
 ghost use mathlib.Core.Path.{_≡_};
 ghost use mathlib.Core.Bool.{true};
 ghost use Prim.Native.Nat.{_≤_};
@@ -9,12 +9,14 @@ ghost use Rattle.schedule.specs.Schedule.{scheduleOf};
 ghost use Rattle.schedule.specs.Questions.{answersOf, question};
 ghost use Rattle.run.specs.Protocol.{fcwfa};
 ghost use Rattle.text.specs.Reading.{longest};
-ghost use Rattle.text.specs.Output.{reportShown, outcomeShown, refusalText};
+ghost use Rattle.text.specs.Output.{reportShown, outcomeShown, reasonsShown, refusalText};
 ghost use Rattle.output.specs.Answers.{zeros, outputSize, outputIs, shownOf};
 use crate::OUTPUT;
 use crate::Output;
 use crate::Wanted;
+use crate::reasons::put_reasons;
 use report::put_outcome;
+use report::put_reasons_heading;
 use report::put_refusal;
 use report::put_report;
 use sets::Set;
@@ -106,6 +108,21 @@ fn concluded(n: usize, t: usize, votes: &[u8], crashes: &[u8], reaches: &[Set]) 
     }
 }
 
+// The reasons of a schedule in tables, which is an accepted one.
+fn explained(n: usize, t: usize, votes: &[u8], crashes: &[u8], reaches: &[Set]) -> Output
+    requires accepted { ⌜ question (scheduleOf n t (now votes) (now crashes) (now reaches)) largest true ≡ 0 ⌝ }
+    ensures output { λ r. ⌜ r ≡ outputIs (reasonsShown (scheduleOf n t (now (votes .entry)) (now (crashes .entry)) (now (reaches .entry)))) ⌝ }
+    ensures fits { λ r. ⌜ r .length ≤ outputSize ⌝ }
+{
+    let mut bytes = blank_output();
+    let heading = put_reasons_heading(&mut bytes, 0);
+    let end = put_reasons(&mut bytes, heading, n, t, votes, crashes, reaches);
+    Output {
+        bytes: bytes,
+        length: end,
+    }
+}
+
 // What is wanted of the accepted schedule in the first n entries of three tables.
 pub fn of_tables(
     wanted: Wanted,
@@ -123,6 +140,7 @@ pub fn of_tables(
     match wanted {
         Wanted::Report => report_of_tables(n, t, votes, crashes, reaches),
         Wanted::Outcome => concluded(n, t, &votes[..n], &crashes[..n], &reaches[..n]),
+        Wanted::Reasons => explained(n, t, &votes[..n], &crashes[..n], &reaches[..n]),
     }
 }
 

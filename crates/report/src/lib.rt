@@ -1,9 +1,14 @@
-// The lines of a report, of an outcome and of a refusal (document 01, "Schedule text and report"; document 02,
-// K6), written into a lent buffer.
+// The lines of a report, of an outcome, of reasons and of a refusal (document 01, "Schedule text and report";
+// document 02, K6 and K9), written into a lent buffer.
 //
-// `put_report` writes the report of given counts and tables, `put_outcome` the two lines of an outcome, and
+// `put_report` writes the report of given counts and tables, `put_outcome` the two lines of an outcome,
+// `put_reasons_heading` the line of names above reasons, `put_reason` the line of one of them, and
 // `put_refusal` the three lines of a refusal. Each takes anything, writes what specs/Shown.antt and the
 // definitions of the crate `text` give, and has no `requires`. What is given is neither read nor run here.
+mod reasons;
+
+pub use reasons::put_reason;
+pub use reasons::put_reasons_heading;
 ghost use mathlib.Core.Path.{_≡_};
 ghost use mathlib.Core.List.{List};
 ghost use mathlib.Core.Bool.{true};

@@ -23,8 +23,8 @@ use Rattle.run.specs.Protocol.{fcwfa}
 use Rattle.run.proofs.Theorem.{accepted-run}
 use Rattle.text.specs.Forms.{sizesHeading, processesHeading, sizesAt, entryAt}
 use Rattle.text.specs.Reading.{isFound, onLine, sizesIn, scheduleIn, entryQuestions, headQuestions, tailQuestions, restQuestions, textQuestions, textAnswer}
-use Rattle.text.specs.Output.{reportShown, outcomeShown, printed, outputOf}
-use Rattle.text.specs.Facts.{PrintsPromises, PrintsOutcome}
+use Rattle.text.specs.Output.{reportShown, outcomeShown, reasonsShown, printed, outputOf}
+use Rattle.text.specs.Facts.{PrintsPromises, PrintsOutcome, PrintsReasons}
 
 -- The questions of one line: they come to 0, or the refusal has that line.
 pub line-passed : (k q : ℕ) → onLine k q ≡ accepted tt → q ≡ 0
@@ -203,6 +203,14 @@ module _ (text : List ℕ) where
       round = _;
       prints = ap (printed (outcomeShown fcwfa) text) e;
       promises = accepted-run s limit true (accepted-schedule s e) .outcome;
+    }
+
+    pub prints-reasons : (s : Schedule) → textAnswer text limit most ≡ accepted s → PrintsReasons s (outputOf reasonsShown text limit most)
+    unfolding outputOf
+    prints-reasons s e = record {
+      why = _;
+      prints = ap (printed reasonsShown text) e;
+      promises = accepted-run s limit true (accepted-schedule s e) .why;
     }
 
     -- the refusal is that of one of the questions, and each has a line up to n + 4

@@ -1,25 +1,31 @@
 -- What is printed has one reading: the byte that ends a field is no digit, so that the field's number and what follows it are known, and field by field so are
--- the line of counts and each line of a decision; the letter of a decision is that of no other. Assumes nothing.
-use mathlib.Core.Path.{_≡_, sym, ap, _∙_}
-use mathlib.Core.Logic.{inl, inr}
+-- the line of counts and each line of a decision or of a reason; the letter of a decision and the first letter of a rule's word are those of no other. Assumes
+-- nothing.
+use mathlib.Core.Path.{_≡_, refl, sym, ap, _∙_}
+use mathlib.Core.Logic.{inl, inr, _≢_}
 use mathlib.Core.List.{List, [], _∷_, _++_, append-assoc, append-nil}
-use mathlib.Core.Bool.{false}
-use Prim.Native.Nat.{ℕ, zero, suc, _+_, _<_}
+use mathlib.Core.Bool.{false, cond}
+use Prim.Native.Nat.{ℕ, zero, suc, _+_, _≤_, _<_}
 use native.Mathlib.Omega.{arith}
 use borrow.Author.Tests.{eqb-true}
-use lib.ListN.{getD}
+use lib.ListN.{getD, length, length-append}
 use lib.Dec.{eqb}
 use Rattle.laws.specs.Below.{fold}
+use Rattle.laws.specs.Quoted.{quoted}
 use Rattle.laws.proofs.Test.{true-or-false, cond-false}
-use Rattle.laws.proofs.Counting.{below-or-top}
+use Rattle.laws.proofs.Counting.{below-or-top, split}
 use Rattle.lines.specs.Lines.{lf}
 use Rattle.fields.specs.Decimal.{letter, decimal, field}
 use Rattle.fields.specs.Fields.{space}
 use Rattle.fields.proofs.Digits.{same-number}
+use Rattle.member.specs.declared.Rule.{Rule}
+use Rattle.member.specs.declared.Rule.the-variants.{Told, ZerosOnly, Quiet, RoundT, LastRound, NoRule}
+use Rattle.member.specs.declared.Reason.{Reason}
 use Rattle.run.specs.Report.{Report}
 use Rattle.text.specs.Written.{eachLine}
-use Rattle.text.specs.Output.{countsHeading, decisionsHeading, refusedHeading, outcomeHeading, decisionLetter, decidedFields, countsLine, decisionLine, decisionLines, reportText, outcomeText, refusalText}
-use Rattle.text.specs.Facts.{SaysTheSame}
+use Rattle.text.specs.Output.{countsHeading, decisionsHeading, refusedHeading, outcomeHeading, reasonsHeading, decisionLetter, decidedFields, countsLine, decisionLine, decisionLines, reportText, outcomeText, ruleWord, numberShown, reasonLine, reasonLines, reasonsText, refusalText}
+use Rattle.text.specs.Facts.{SaysTheSame, SameReason}
+use Rattle.text.proofs.Lines.{each-at}
 
 -- The letter of a decision, `-` for none, which comes before all digits, or the decision's digit, is that of no other decision.
 none-low : decisionLetter 2 < letter 0
@@ -140,7 +146,86 @@ one-outcome d r e q h =
     let values = same-rest outcomeHeading _ _ h in
     same-decided d r e q [] [] (append-nil _ ∙ values ∙ sym (append-nil _)) .0
 
--- A refusal is no report and no outcome: already their first letters differ. And it has one reading, too.
+-- The rule of a word that starts a text: its first letter tells it.
+abbrev firstLetter : Rule → ℕ
+firstLetter p = getD (ruleWord p) 0 0
+
+ruleRead : List ℕ → Rule
+ruleRead text =
+    let first = getD text 0 0 in
+    cond (eqb first (firstLetter Told)) Told
+    (cond (eqb first (firstLetter ZerosOnly)) ZerosOnly
+    (cond (eqb first (firstLetter Quiet)) Quiet
+    (cond (eqb first (firstLetter RoundT)) RoundT
+    (cond (eqb first (firstLetter LastRound)) LastRound NoRule))))
+
+rule-read : (p : Rule) (rest : List ℕ) → ruleRead (ruleWord p ++ rest) ≡ p
+unfolding ruleRead ruleWord
+rule-read Told rest = refl
+rule-read ZerosOnly rest = refl
+rule-read Quiet rest = refl
+rule-read RoundT rest = refl
+rule-read LastRound rest = refl
+rule-read NoRule rest = refl
+
+-- The number of a rule at the end of a line, with what follows it.
+module _ (x y : ℕ) (rest others : List ℕ) where
+  same-given : (p : Rule) → numberShown p x ++ rest ≡ numberShown p y ++ others → (p ≢ ZerosOnly → p ≢ LastRound → x ≡ y) × (rest ≡ others)
+  unfolding numberShown
+  same-given p = elim p [
+    | Told ↦ given
+    | ZerosOnly ↦ λ e. (λ other _. absurd (other refl), same-rest (quoted "-\n") rest others e)
+    | Quiet ↦ given
+    | RoundT ↦ given
+    | LastRound ↦ λ e. (λ _ other. absurd (other refl), same-rest (quoted "-\n") rest others e)
+    | NoRule ↦ given
+  ]
+    where
+      given : {A B : Type 0} → field x lf ++ rest ≡ field y lf ++ others → (A → B → x ≡ y) × (rest ≡ others)
+      given e = let both = same-field lf (omega arith) x y rest others e in (λ _ _. both .0, both .1)
+
+-- The line of a reason, with what follows it.
+reason-parts : (id : ℕ) (why : Reason) (rest : List ℕ)
+    → reasonLine id why ++ rest ≡ field id space ++ (ruleWord (why .rule) ++ (space ∷ (numberShown (why .rule) (why .number) ++ rest)))
+unfolding reasonLine
+reason-parts id why rest = simp append-assoc
+
+same-reason : (id : ℕ) (a b : Reason) (rest others : List ℕ) → reasonLine id a ++ rest ≡ reasonLine id b ++ others → SameReason a b × (rest ≡ others)
+same-reason id a b rest others e =
+    let words = same-field space (omega arith) id id _ _ (sym (reason-parts id a rest) ∙ e ∙ reason-parts id b others) .1 in
+    let rule : a .rule ≡ b .rule = sym (rule-read (a .rule) _) ∙ ap ruleRead words ∙ rule-read (b .rule) _ in
+    let ends = same-rest (ruleWord (a .rule)) _ _ (words ∙ ap (λ (p : Rule). ruleWord p ++ (space ∷ (numberShown p (b .number) ++ others))) (sym rule)) in
+    let both = same-given (a .number) (b .number) rest others (a .rule) (cc ends) in
+    (record { rule = rule; number = both .0 }, both .1)
+
+-- The lines of the reasons of n processes, and those of m.
+
+module _ (a b : ℕ → Reason) where
+  same-reasons : (n : ℕ) (rest : List ℕ) → reasonLines n a ≡ reasonLines n b ++ rest → ((i : ℕ) → i < n → SameReason (a i) (b i)) × ([] ≡ rest)
+  same-reasons n rest e = same-each _ _ (λ i. SameReason (a i) (b i)) (λ i. same-reason (i + 1) (a i) (b i)) n [] rest (append-nil _ ∙ e)
+
+  -- there is no line after the last: it would have a space
+  no-more : (n m : ℕ) → reasonLines n a ≡ reasonLines m b → m ≤ n
+  unfolding reasonLine
+  no-more n m e =
+      elim (split m n) [
+        | inl l ↦ l
+        | inr l ↦
+            let next = each-at (λ i. reasonLine (i + 1) (b i)) m n l in
+            let none = same-reasons n _ (e ∙ next .1) .1 in
+            absurd (omega (arith, simp length-append at (ap length none)))
+      ]
+
+pub one-reasons : (n m : ℕ) (a b : ℕ → Reason) → reasonsText n a ≡ reasonsText m b → (n ≡ m) × ((i : ℕ) → i < m → SameReason (a i) (b i))
+unfolding reasonsText
+one-reasons n m a b h =
+    let lines = same-rest reasonsHeading _ _ h in
+    let low = no-more a b n m lines in
+    let high = no-more b a m n (sym lines) in
+    let size : n ≡ m = omega arith in
+    (size, same-reasons a b m [] (ap (λ (k : ℕ). reasonLines k a) (sym size) ∙ lines ∙ sym (append-nil _)) .0)
+
+-- A refusal is no report, no outcome and no list of reasons: already their first letters differ. And it has one reading, too.
 pub no-report : (number k : ℕ) (line : List ℕ) (m u : ℕ) (b : Report) → refusalText number k line ≡ reportText m u b → ⊥
 unfolding refusalText reportText
 no-report number k line m u b e =
@@ -151,6 +236,12 @@ pub no-outcome : (number k : ℕ) (line : List ℕ) (d r : ℕ) → refusalText 
 unfolding refusalText outcomeText
 no-outcome number k line d r e =
     let letters : _≡_ {A = ℕ} 114 100 = ap (λ (xs : List ℕ). getD xs 0 0) e in
+    absurd (omega arith)
+
+pub no-reasons : (number k : ℕ) (line : List ℕ) (m : ℕ) (why : ℕ → Reason) → refusalText number k line ≡ reasonsText m why → ⊥
+unfolding refusalText reasonsText
+no-reasons number k line m why e =
+    let letters : _≡_ {A = ℕ} 114 105 = ap (λ (xs : List ℕ). getD xs 0 0) e in
     absurd (omega arith)
 
 pub one-refusal : (number k : ℕ) (line : List ℕ) (m j : ℕ) (other : List ℕ) → refusalText number k line ≡ refusalText m j other → (number ≡ m) × (k ≡ j)

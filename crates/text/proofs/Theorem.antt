@@ -2,24 +2,26 @@
 use mathlib.Core.Path.{_≡_, sym, ap, _∙_}
 use mathlib.Core.List.{List}
 use mathlib.Core.Bool.{true}
-use Prim.Native.Nat.{ℕ, _≤_}
+use Prim.Native.Nat.{ℕ, _≤_, _<_}
 use native.Mathlib.Omega.{arith}
 use Rattle.laws.specs.Answer.{accepted, refused}
 use Rattle.lines.specs.Lines.{lineOf}
+use Rattle.member.specs.declared.Reason.{Reason}
 use Rattle.sets.specs.Largest.{largest}
 use Rattle.schedule.specs.Schedule.{Schedule}
 use Rattle.schedule.proofs.Accepted.{question-accepted}
 use Rattle.run.specs.Protocol.{Protocol}
 use Rattle.run.specs.Report.{Report, report}
 use Rattle.run.specs.Outcome.{outcomeRound, outcomeDecision}
+use Rattle.run.specs.Why.{whyOf}
 use Rattle.text.specs.Reading.{longest, textAnswer}
-use Rattle.text.specs.Output.{reportText, outcomeText, refusalText, reportShown, outcomeShown, printed, outputOf}
-use Rattle.text.specs.Facts.{SaysTheSame, TextPromises, RefusalsSay, ReportOutputPromises, OutcomeOutputPromises, PrintedKeepsPromises, TextLengths, AllReadBack}
-use Rattle.text.proofs.Accepted.{accepted-schedule, line-bound, line-short, numbered, prints-promises, prints-outcome}
+use Rattle.text.specs.Output.{reportText, outcomeText, reasonsText, refusalText, reportShown, outcomeShown, reasonsShown, printed, outputOf}
+use Rattle.text.specs.Facts.{SaysTheSame, TextPromises, RefusalsSay, ReportOutputPromises, OutcomeOutputPromises, SameReason, ReasonsOutputPromises, PrintedKeepsPromises, TextLengths, AllReadBack}
+use Rattle.text.proofs.Accepted.{accepted-schedule, line-bound, line-short, numbered, prints-promises, prints-outcome, prints-reasons}
 use Rattle.text.proofs.Inverse.{written}
 use Rattle.text.proofs.ReadBack.{reads-back}
 use Rattle.text.proofs.Sizes.{text-long, text-short}
-use Rattle.text.proofs.Says.{one-reading, one-outcome, no-report, no-outcome, one-refusal}
+use Rattle.text.proofs.Says.{one-reading, one-outcome, one-reasons, no-report, no-outcome, no-reasons, one-refusal}
 
 pub accepted-texts : (limit most : ℕ) → limit ≤ 99 → TextPromises limit most
 accepted-texts limit most high = record {
@@ -69,10 +71,25 @@ module _ (P : Protocol) (limit most : ℕ) where
     refusals = refusals-say (outcomeShown P) limit most;
   }
 
+module _ (limit most : ℕ) where
+  -- and whatever reasons are read are those of its processes
+  reasons-say : (text : List ℕ) (s : Schedule) → textAnswer text limit most ≡ accepted s
+      → (m : ℕ) (why : ℕ → Reason) → outputOf reasonsShown text limit most ≡ reasonsText m why → (s .n ≡ m) × ((i : ℕ) → i < m → SameReason (whyOf s i) (why i))
+  unfolding outputOf
+  reasons-say text s e m why h = one-reasons (s .n) m (whyOf s) why (sym (ap (printed reasonsShown text) e) ∙ h)
+
+  pub reasons-outputs : ReasonsOutputPromises limit most
+  reasons-outputs = record {
+    says = reasons-say;
+    told-apart = λ text number k e m why h. no-reasons number k (lineOf k text) m why (sym (refusal-printed reasonsShown limit most text number k e) ∙ h);
+    refusals = refusals-say reasonsShown limit most;
+  }
+
 pub printed-keeps-promises : (limit most : ℕ) → PrintedKeepsPromises limit most
 printed-keeps-promises limit most = record {
   report-printed = λ text s. prints-promises text limit most s;
   outcome-printed = λ text s. prints-outcome text limit most s;
+  reasons-printed = λ text s. prints-reasons text limit most s;
 }
 
 pub text-lengths : TextLengths

@@ -90,21 +90,25 @@ ruleWord LastRound = quoted "last"
 ruleWord NoRule = quoted "crashed"
 
 -- the number that goes with a rule, at the end of a line, and `-` for the two that have none
-unfoldable pub numberField : Rule → ℕ → List ℕ
-numberField Told number = field number lf
-numberField ZerosOnly number = quoted "-\n"
-numberField Quiet number = field number lf
-numberField RoundT number = field number lf
-numberField LastRound number = quoted "-\n"
-numberField NoRule number = field number lf
+unfoldable pub numberShown : Rule → ℕ → List ℕ
+numberShown Told number = field number lf
+numberShown ZerosOnly number = quoted "-\n"
+numberShown Quiet number = field number lf
+numberShown RoundT number = field number lf
+numberShown LastRound number = quoted "-\n"
+numberShown NoRule number = field number lf
 
 -- the line of the process with this number
 unfoldable pub reasonLine : ℕ → Reason → List ℕ
-reasonLine id why = field id space ++ (ruleWord (why .rule) ++ ((space ∷ []) ++ numberField (why .rule) (why .number)))
+reasonLine id why = field id space ++ (ruleWord (why .rule) ++ ((space ∷ []) ++ numberShown (why .rule) (why .number)))
 
--- what is printed of the reasons of n processes, from those at places 0, 1, ..
+-- the lines of n processes, from the reasons of those at places 0, 1, ..
+abbrev pub reasonLines : ℕ → (ℕ → Reason) → List ℕ
+reasonLines n why = eachLine n (λ i. reasonLine (i + 1) (why i))
+
+-- what is printed of these reasons
 unfoldable pub reasonsText : ℕ → (ℕ → Reason) → List ℕ
-reasonsText n why = reasonsHeading ++ eachLine n (λ i. reasonLine (i + 1) (why i))
+reasonsText n why = reasonsHeading ++ reasonLines n why
 
 -- "A refused text prints three lines: `refused line`; the number and the line's number split by one space; that line itself (empty for line 0)."
 unfoldable pub refusalText : ℕ → ℕ → List ℕ → List ℕ

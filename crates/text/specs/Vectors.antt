@@ -1,6 +1,6 @@
 -- Texts with their whole output under FCWFA, written from documents 01 and 02 by hand, a schedule with the longest text, and the statements that
 -- cover them. Proved in proofs/Vectors.antt, each by computing what the definitions give: `text-vectors : TextVectors`, `length-vectors : LengthVectors`,
--- `outcome-text-vectors : OutcomeTextVectors`.
+-- `outcome-text-vectors : OutcomeTextVectors`, `reasons-text-vectors : ReasonsTextVectors`.
 use Prim.Native.Nat.{ℕ}
 use Prim.Native.String.{String}
 use mathlib.Core.Path.{_≡_}
@@ -15,7 +15,7 @@ use Rattle.schedule.specs.Questions.{question}
 use Rattle.run.specs.Protocol.{fcwfa}
 use Rattle.text.specs.Written.{textOf, longestWritten}
 use Rattle.text.specs.Reading.{longest}
-use Rattle.text.specs.Output.{reportShown, outcomeShown, outputOf}
+use Rattle.text.specs.Output.{reportShown, outcomeShown, reasonsShown, outputOf}
 
 -- a text, and what is printed for it
 pub record Printed : Type 0 where
@@ -89,6 +89,34 @@ outcomeVectors =
 
 abbrev pub OutcomeTextVectors : Type 0
 OutcomeTextVectors = map (λ v. outputOf (outcomeShown fcwfa) (quoted (v .text)) largest longest) outcomeVectors ≡ map (λ v. quoted (v .output)) outcomeVectors
+
+-- a line of names `id rule number`, and the reason of each process
+abbrev pub reasonsVectors : List Printed
+reasonsVectors =
+    -- case A: no estimate is missing in round 2, which is at most t − 1
+    prints "n t\n4 3\nid vote crash reach\n1 1 0 0000\n2 1 0 0000\n3 1 0 0000\n4 1 0 0000\n"
+    "id rule number\n1 quiet 0\n2 quiet 0\n3 quiet 0\n4 quiet 0\n" ∷
+    -- case B: no estimate is missing there either, but the rule of zeros only comes first
+    prints "n t\n4 3\nid vote crash reach\n1 0 0 0000\n2 1 0 0000\n3 1 0 0000\n4 1 0 0000\n"
+    "id rule number\n1 zeros -\n2 zeros -\n3 zeros -\n4 zeros -\n" ∷
+    -- case D: the three estimates of round 3, which is t
+    prints "n t\n4 3\nid vote crash reach\n1 1 1 0100\n2 1 0 0000\n3 1 0 0000\n4 1 0 0000\n"
+    "id rule number\n1 crashed 1\n2 round-t 3\n3 round-t 3\n4 round-t 3\n" ∷
+    -- case E: process 3 hears one estimate, its own, in round 3, where two would be enough, and decides in the last round
+    prints "n t\n4 3\nid vote crash reach\n1 1 1 0110\n2 1 3 0000\n3 1 0 0000\n4 1 2 0100\n"
+    "id rule number\n1 crashed 1\n2 crashed 3\n3 last -\n4 crashed 2\n" ∷
+    -- process 4 alone hears all four estimates in round 2, and tells process 3 of it as it crashes in round 3
+    prints "n t\n4 3\nid vote crash reach\n1 1 2 0101\n2 1 2 0001\n3 1 0 0000\n4 1 3 0010\n"
+    "id rule number\n1 crashed 2\n2 crashed 2\n3 told 4\n4 quiet 0\n" ∷
+    -- processes 3 and 4 hear all four in round 2, and process 2 is told by both: "the lowest sender"
+    prints "n t\n4 3\nid vote crash reach\n1 1 2 0011\n2 1 0 0000\n3 1 0 0000\n4 1 0 0000\n"
+    "id rule number\n1 crashed 2\n2 told 3\n3 quiet 0\n4 quiet 0\n" ∷
+    -- and the same three lines of a refusal
+    prints "n t\n3 3\n" "refused line\n1 2\n3 3\n" ∷
+    []
+
+abbrev pub ReasonsTextVectors : Type 0
+ReasonsTextVectors = map (λ v. outputOf reasonsShown (quoted (v .text)) largest longest) reasonsVectors ≡ map (λ v. quoted (v .output)) reasonsVectors
 
 -- A schedule with the longest text: 64 processes, of which all but the last crash, in round t + 1 = 64.
 abbrev pub longestSchedule : Schedule

@@ -39,6 +39,30 @@ slice-aggregate-concluded-3 c = let a = c .before .before .before .before .befor
 concluded-requires : tie.Need-concluded-requires
 concluded-requires c κs = search needs
 
+enum-told-3 : tie.Need-enum-told-3
+enum-told-3 c = search needs
+
+array-share-prefix-votes-2 : tie.Need-array-share-prefix-votes-2
+array-share-prefix-votes-2 c = search needs
+
+slice-aggregate-explained : tie.Need-slice-aggregate-explained
+slice-aggregate-explained c = let a = c .before .before .before .args in sym (length-take-le (a .n) (a .t4) (search needs))
+
+array-share-prefix-crashes-2 : tie.Need-array-share-prefix-crashes-2
+array-share-prefix-crashes-2 c = search needs
+
+slice-aggregate-explained-2 : tie.Need-slice-aggregate-explained-2
+slice-aggregate-explained-2 c = let a = c .before .before .before .before .args in sym (length-take-le (a .n) (a .t5) (search needs))
+
+array-share-prefix-reaches-2 : tie.Need-array-share-prefix-reaches-2
+array-share-prefix-reaches-2 c = search needs
+
+slice-aggregate-explained-3 : tie.Need-slice-aggregate-explained-3
+slice-aggregate-explained-3 c = let a = c .before .before .before .before .before .args in sym (length-take-le (a .n) (a .t6) (search needs))
+
+explained-requires : tie.Need-explained-requires
+explained-requires c κs = search needs
+
 returns : tie.Need-returns
 returns c =
     let a = c .before .before .before .args in
@@ -52,6 +76,13 @@ returns-2 c =
     let s = scheduleOf (a .n) (a .t) (take (a .n) (a .t4)) (take (a .n) (a .t5)) (take (a .n) (a .t6)) in
     let outcome = c .concluded .ensures in
     (outcome .0 ∙ ap (λ (w : Wanted). outputIs (shownOf w s)) (sym (c .before .before .before .before .enum-told2 .given .1)), outcome .1)
+
+returns-3 : tie.Need-returns-3
+returns-3 c =
+    let a = c .before .before .before .before .before .before .args in
+    let s = scheduleOf (a .n) (a .t) (take (a .n) (a .t4)) (take (a .n) (a .t5)) (take (a .n) (a .t6)) in
+    let reasons = c .explained .ensures in
+    (reasons .0 ∙ ap (λ (w : Wanted). outputIs (shownOf w s)) (sym (c .before .before .before .before .enum-told3 .given .1)), reasons .1)
 
 pub of-tables-spec : {M : Type 1} → statement M
 of-tables-spec =
@@ -67,5 +98,14 @@ of-tables-spec =
     array-share-prefix-reaches
     slice-aggregate-concluded-3
     concluded-requires
+    enum-told-3
+    array-share-prefix-votes-2
+    slice-aggregate-explained
+    array-share-prefix-crashes-2
+    slice-aggregate-explained-2
+    array-share-prefix-reaches-2
+    slice-aggregate-explained-3
+    explained-requires
     returns
-    returns-2)
+    returns-2
+    returns-3)
