@@ -1,11 +1,12 @@
 /*
- * Five uses of the library. First a cluster of four members in one process:
+ * Six uses of the library. First a cluster of four members in one process:
  * they commit; with one vote for abort they abort; and they abort where one of
  * them crashes in round 1. Each member's silent set is printed with its
  * decision. Then the simulator on the same crash, and on a schedule that is
- * refused. Then the outcome alone, without the whole run. Then the crashes of a
- * table, counted up to the one that is too many. Last a schedule in tables,
- * written as its text, read back, and refused.
+ * refused. Then the outcome alone, without the whole run. Then the rule that
+ * decided each process of a schedule. Then the crashes of a table, counted up to
+ * the one that is too many. Last a schedule in tables, written as its text, read
+ * back, and refused.
  * Compiles as C11 and as C++.
  */
 #include <assert.h>
@@ -158,6 +159,56 @@ static void print_outcome(uint8_t crash, fcwfa_set reach)
                outcome[FCWFA_OUTCOME_ROUND]);
 }
 
+/* Prints the rule that decided a process, with its number. */
+static void print_why(const size_t why[FCWFA_WHY])
+{
+    size_t number = why[FCWFA_WHY_NUMBER];
+
+    switch (why[FCWFA_WHY_KIND]) {
+    case FCWFA_CRASHED:
+        printf("crashed in round %zu\n", number);
+        break;
+    case FCWFA_TOLD:
+        printf("told by process %zu\n", number);
+        break;
+    case FCWFA_ZEROS_ONLY:
+        puts("zeros only in round 2");
+        break;
+    case FCWFA_QUIET:
+        printf("a quiet round, estimates missing: %zu\n", number);
+        break;
+    case FCWFA_ROUND_T:
+        printf("round t, estimates heard: %zu\n", number);
+        break;
+    case FCWFA_LAST_ROUND:
+        puts("the last round");
+        break;
+    }
+}
+
+/*
+ * Says why each of five processes decides as it does, all votes 1, and of one
+ * more that is not there. Process 5 crashes in round 2 and reaches process 4
+ * only, and process 4 crashes in round 3 and reaches process 1 only.
+ */
+static void show_why(void)
+{
+    const uint8_t votes[5] = {1, 1, 1, 1, 1};
+    const uint8_t crashes[5] = {0, 0, 0, 3, 2};
+    const fcwfa_set reaches[5] = {0, 0, 0, only(1), only(4)};
+
+    for (size_t id = 1; id <= 6; id++) {
+        size_t why[FCWFA_WHY];
+        uint8_t number = fcwfa_why(5, 3, votes, 5, crashes, 5, reaches, 5, id, why);
+
+        printf("process %zu: ", id);
+        if (number != FCWFA_OK)
+            printf("refused by question %d\n", number);
+        else
+            print_why(why);
+    }
+}
+
 /* Counts the crashes of the first `length` of six processes. */
 static void count(size_t t, size_t length)
 {
@@ -256,6 +307,8 @@ int main(void)
     print_outcome(1, only(2));
     print_outcome(2, only(2));
     print_outcome(5, only(2));
+    puts("why each decides: process 5 of five crashes in round 2 and reaches 4 only, and 4 crashes in round 3 and reaches 1 only");
+    show_why();
     puts("a member with the number 5 of 4");
     printf("refused by question %d\n", fcwfa_open(N, T, 5, 1, state));
     puts("processes 1, 3, 4 and 5 of six crash: counted with t = 1, 3, 4 and the largest, and in an empty table");

@@ -1,8 +1,9 @@
 /*
  * One process of FCWFA, the fast-commit, weakly fast-abort atomic commit
- * protocol, the simulator of a whole cluster, the outcome alone, and the texts
- * of schedules: the proved functions of libfcwfa_member.a,
- * libfcwfa_simulator.a, libfcwfa_outcome.a and libfcwfa_texts.a (x86-64 Linux).
+ * protocol, the simulator of a whole cluster, the outcome alone, the rule that
+ * decided a process, and the texts of schedules: the proved functions of
+ * libfcwfa_member.a, libfcwfa_simulator.a, libfcwfa_outcome.a, libfcwfa_why.a
+ * and libfcwfa_texts.a (x86-64 Linux).
  *
  * Every function takes any numbers and any bytes. It returns 0 (FCWFA_OK) and
  * does its work, or the number of the first question whose answer is no (the
@@ -35,9 +36,9 @@ extern "C" {
  * the header of the library that is linked: it says how much a call writes.
  */
 #define FCWFA_VERSION_MAJOR 0
-#define FCWFA_VERSION_MINOR 8
+#define FCWFA_VERSION_MINOR 9
 #define FCWFA_VERSION_PATCH 0
-#define FCWFA_VERSION "0.8.0"
+#define FCWFA_VERSION "0.9.0"
 
 /* The largest number of processes. */
 #define FCWFA_LARGEST_N 64
@@ -66,7 +67,7 @@ typedef uint64_t fcwfa_set;
 #define FCWFA_REFUSED_TEXT_LENGTH 8
 /* A line is not of its form or is not there, or something follows the last process. */
 #define FCWFA_REFUSED_FORM 9
-/* The own number is not from 1 to n. */
+/* The own number, or for fcwfa_why that of the process asked about, is not from 1 to n. */
 #define FCWFA_REFUSED_ID 10
 /* The fourteen bytes are not a state in range. */
 #define FCWFA_REFUSED_STATE 11
@@ -216,6 +217,55 @@ uint8_t fcwfa_outcome(size_t n, size_t t,
                       const fcwfa_set *reaches, size_t reaches_length,
                       uint8_t outcome[FCWFA_OUTCOME]);
 
+/* What fcwfa_why writes to `why`, at these places. */
+#define FCWFA_WHY 2
+/* What decided the process, or that nothing did: one of the six kinds below. */
+#define FCWFA_WHY_KIND 0
+/* The number that goes with this kind, as it is told there; 0 where there is none. */
+#define FCWFA_WHY_NUMBER 1
+
+/*
+ * The kinds. FCWFA_CRASHED says that the process made no decision; the others
+ * are the rules, in the order in which they are asked for the row that the
+ * process heard in the round in which it decided.
+ */
+/* It crashed before it decided. The number is its crash round. */
+#define FCWFA_CRASHED 0
+/*
+ * A decided message stood in the row. The number is that of its sender, from 1,
+ * the lowest of the senders if there were several.
+ */
+#define FCWFA_TOLD 1
+/* Round 2, and all estimates in the row were 0. There is no number. */
+#define FCWFA_ZEROS_ONLY 2
+/*
+ * A quiet round: round r from 2 to t - 1, and at most r - 2 processes sent no
+ * estimate. The number is how many sent none.
+ */
+#define FCWFA_QUIET 3
+/* Round t, with at least n - t + 1 estimates. The number is how many were heard. */
+#define FCWFA_ROUND_T 4
+/* Round t + 1, the last one, in which it decides in any case. There is no number. */
+#define FCWFA_LAST_ROUND 5
+
+/*
+ * Says why process `id` decided as it did in the whole run: writes the first
+ * rule, in the order above, that was met by the row that it heard in the round in
+ * which it decided, and the number of that row. The schedule is in tables as
+ * fcwfa_simulate takes them: all three are n long. The rule is one by which the
+ * process decides in that round. A sender that is named decided in the round
+ * before, and the same value; it is never the process itself. A process that
+ * decided and crashed afterwards has its rule. One that made no decision
+ * crashed, in the round that is written.
+ * Refusals, in this order: 1, 2, 3, then for each process in turn 4, 5, 6, then
+ * 7, and last 10: `id` is not from 1 to n. `why` is then as it was.
+ */
+uint8_t fcwfa_why(size_t n, size_t t,
+                  const uint8_t *votes, size_t votes_length,
+                  const uint8_t *crashes, size_t crashes_length,
+                  const fcwfa_set *reaches, size_t reaches_length,
+                  size_t id, size_t why[FCWFA_WHY]);
+
 /* What fcwfa_count_crashes writes to `counted`, at these places. */
 #define FCWFA_COUNTED 2
 /*
@@ -281,8 +331,8 @@ uint8_t fcwfa_write_schedule(size_t n, size_t t,
  * entries, for n is not known before. The first n entries of each get what the
  * text says, and those after them keep their contents; n and t are written to
  * `read`, and its third place is as it was. The tables can be passed on to
- * fcwfa_simulate, fcwfa_outcome and fcwfa_write_schedule, with n for their
- * lengths, and fcwfa_write_schedule makes the same text of them again.
+ * fcwfa_simulate, fcwfa_outcome, fcwfa_why and fcwfa_write_schedule, with n for
+ * their lengths, and fcwfa_write_schedule makes the same text of them again.
  * Refusals, in this order: 3 with line 0; 8 with line 0; then line by line 9,
  * followed on line 2 by 1, 2 and on the line of a process by 4, 5, 6; then 9
  * with line n + 4, if anything follows line n + 3; and last 7 with line n + 3.

@@ -5,10 +5,11 @@ use std::path::{Path, PathBuf};
 use std::process::exit;
 
 /// The libraries, each by the name that `rt staticlib` takes.
-const LIBRARIES: [&str; 4] = [
+const LIBRARIES: [&str; 5] = [
     "fcwfa_member",
     "fcwfa_simulator",
     "fcwfa_outcome",
+    "fcwfa_why",
     "fcwfa_texts",
 ];
 

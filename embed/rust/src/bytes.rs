@@ -26,6 +26,14 @@ pub const OUTCOME_DECISION: usize = 0;
 /// The place of the round among them, the first one in which some process decides.
 pub const OUTCOME_ROUND: usize = 1;
 
+/// The place of what decided the process among the two numbers of [`why`]: 0 nothing, it crashed, 1 told, 2 zeros only, 3 a quiet round,
+/// 4 round t, 5 the last round.
+pub const WHY_KIND: usize = 0;
+
+/// The place of the number that goes with it among them: the crash round, the sender, 0, the estimates that were missing, the estimates that
+/// were heard, 0.
+pub const WHY_NUMBER: usize = 1;
+
 /// The place of n, the number of processes, among the three numbers of [`read_schedule`]. It is written if the text is accepted.
 pub const READ_N: usize = 0;
 
@@ -67,6 +75,18 @@ mod foreign {
             reaches: *const Set,
             reaches_length: usize,
             outcome: *mut u8,
+        ) -> u8;
+        pub fn fcwfa_why(
+            n: usize,
+            t: usize,
+            votes: *const u8,
+            votes_length: usize,
+            crashes: *const u8,
+            crashes_length: usize,
+            reaches: *const Set,
+            reaches_length: usize,
+            id: usize,
+            why: *mut usize,
         ) -> u8;
         pub fn fcwfa_count_crashes(
             t: usize,
@@ -196,6 +216,39 @@ pub fn outcome(
             reaches.as_ptr(),
             reaches.len(),
             outcome.as_mut_ptr(),
+        )
+    };
+    accepted(number, ())
+}
+
+/// Says why process `id`, from 1, decided as it did: see [`why`](crate::why). `why` gets what decided it at [`WHY_KIND`], and the number that
+/// goes with it at [`WHY_NUMBER`].
+///
+/// Refusals: 1, 2, 3 (all three tables are n long), 4, 5, 6 for each process in turn, 7, 10 (`id` is not from 1 to n). `why` is then as it
+/// was.
+pub fn why(
+    n: usize,
+    t: usize,
+    votes: &[u8],
+    crashes: &[u8],
+    reaches: &[Set],
+    id: usize,
+    why: &mut [usize; 2],
+) -> Result<(), u8> {
+    // SAFETY: each pointer is good for the length given with it and the last for two numbers; what is written is lent by `&mut`, so it
+    // overlaps with nothing else.
+    let number = unsafe {
+        foreign::fcwfa_why(
+            n,
+            t,
+            votes.as_ptr(),
+            votes.len(),
+            crashes.as_ptr(),
+            crashes.len(),
+            reaches.as_ptr(),
+            reaches.len(),
+            id,
+            why.as_mut_ptr(),
         )
     };
     accepted(number, ())

@@ -1,13 +1,14 @@
 //! One process of FCWFA, the fast-commit, weakly fast-abort atomic commit protocol, the simulator of a whole cluster, and the texts of its
 //! schedules.
 //!
-//! The work is done by the proved functions of `libfcwfa_member.a`, `libfcwfa_simulator.a`, `libfcwfa_outcome.a` and `libfcwfa_texts.a`;
-//! this crate only gives their numbers types and lends them slices. A call does its work, or answers a [`Refusal`] and leaves everything it
-//! was lent as it was. Every type says which numbers it stands for; they are those of `embed/fcwfa.h`. The module [`bytes`] has the same calls
-//! on the bare numbers.
+//! The work is done by the proved functions of `libfcwfa_member.a`, `libfcwfa_simulator.a`, `libfcwfa_outcome.a`, `libfcwfa_why.a` and
+//! `libfcwfa_texts.a`; this crate only gives their numbers types and lends them slices. A call does its work, or answers a [`Refusal`] and
+//! leaves everything it was lent as it was. Every type says which numbers it stands for; they are those of `embed/fcwfa.h`. The module
+//! [`bytes`] has the same calls on the bare numbers.
 //!
-//! [`Member`] is one process, [`simulate`] runs a whole cluster, [`outcome`] says commit or abort without the whole run, and a [`Schedule`]
-//! is what a cluster is run by: it parses from the text that the program `bench` reads, and displays as it.
+//! [`Member`] is one process, [`simulate`] runs a whole cluster, [`outcome`] says commit or abort without the whole run, [`why`] names the
+//! rule that decided a process, and a [`Schedule`] is what a cluster is run by: it parses from the text that the program `bench` reads, and
+//! displays as it.
 //!
 //! Four members vote to commit, every message arrives, and all of them commit in round 2:
 //!
@@ -67,6 +68,7 @@ mod crashes;
 mod member;
 mod processes;
 mod refusal;
+mod rules;
 mod schedule;
 mod simulator;
 mod values;
@@ -75,6 +77,7 @@ pub use crashes::{count_crashes, CrashCount};
 pub use member::Member;
 pub use processes::{ProcessNumbers, Processes};
 pub use refusal::{Refusal, TextRefusal};
+pub use rules::{why, Why};
 pub use schedule::Schedule;
 pub use simulator::{outcome, simulate, Counts, Outcome, Report};
 pub use values::{Code, Decided, Decision, Vote};

@@ -29,7 +29,7 @@ pub enum Refusal {
     TextLength = 8,
     /// 9: a line is not of its form or is not there, or something follows the last process.
     Form = 9,
-    /// 10: the own number is not from 1 to n.
+    /// 10: the own number, or for [`why`](crate::why) that of the process asked about, is not from 1 to n.
     Id = 10,
     /// 11: the fourteen bytes are not a state in range.
     State = 11,
@@ -109,7 +109,7 @@ impl Refusal {
             Refusal::Form => {
                 "a line is not of its form or is not there, or something follows the last process"
             }
-            Refusal::Id => "the own number is not from 1 to n",
+            Refusal::Id => "the number of the process is not from 1 to n",
             Refusal::State => "the fourteen bytes are not a state in range",
             Refusal::Stopped => "the member has stopped",
             Refusal::RowLength => "the row is not n long",
@@ -158,7 +158,7 @@ impl std::error::Error for TextRefusal {}
 
 /// Ends the program: the library answered what this crate has no name for, so the two do not belong together.
 #[cold]
-pub(crate) fn unknown(what: &str, number: u8) -> ! {
+pub(crate) fn unknown(what: &str, number: impl fmt::Display) -> ! {
     panic!("the library answered the {what} {number}, which this crate does not know: the linked library is of another version")
 }
 

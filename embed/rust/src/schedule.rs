@@ -4,7 +4,7 @@ use std::fmt;
 use std::str::{from_utf8, FromStr};
 
 use crate::bytes::{self, READ_LINE, READ_N, READ_T};
-use crate::{outcome, simulate, Outcome, Refusal, Report, Set, TextRefusal, Vote};
+use crate::{outcome, simulate, why, Outcome, Refusal, Report, Set, TextRefusal, Vote, Why};
 use crate::{LARGEST, LONGEST_WRITTEN};
 
 /// A schedule: who votes what, who crashes when, and whom the last message reaches. It was accepted when it was made, so it can always be
@@ -143,6 +143,29 @@ impl Schedule {
         let (n, t) = (self.n(), self.t);
         outcome(n, t, &self.votes, &self.crashes, &self.reaches)
             .unwrap_or_else(|refusal| unaccepted(refusal.number()))
+    }
+
+    /// Says why process `id`, from 1 to n, decided as it did: what [`why`] answers of these tables. [`Refusal::Id`] is the only refusal.
+    ///
+    /// ```
+    /// use fcwfa::{Refusal, Schedule, Why};
+    ///
+    /// # fn main() -> Result<(), Box<dyn std::error::Error>> {
+    /// let text = "n t\n4 3\nid vote crash reach\n1 1 1 0100\n2 1 0 0000\n3 1 0 0000\n4 1 0 0000\n";
+    /// let schedule: Schedule = text.parse()?;
+    /// assert_eq!(schedule.why(1)?.to_string(), "crashed in round 1");
+    /// assert_eq!(schedule.why(2)?, Why::RoundT { estimates: 3 });
+    /// assert_eq!(schedule.why(5), Err(Refusal::Id));
+    /// # Ok(())
+    /// # }
+    /// ```
+    pub fn why(&self, id: usize) -> Result<Why, Refusal> {
+        let (n, t) = (self.n(), self.t);
+        let answer = why(n, t, &self.votes, &self.crashes, &self.reaches, id);
+        answer.map_err(|refusal| match refusal {
+            Refusal::Id => refusal,
+            _ => unaccepted(refusal.number()),
+        })
     }
 }
 

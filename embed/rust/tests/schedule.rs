@@ -3,8 +3,8 @@ use std::collections::HashSet;
 use std::fs;
 use std::path::Path;
 
-use fcwfa::{outcome, simulate, Decided, Refusal, Report, Schedule, Set, TextRefusal, Vote};
-use fcwfa::{LARGEST, LONGEST_TEXT, LONGEST_WRITTEN};
+use fcwfa::{outcome, simulate, why, Decided, Refusal, Report, Schedule, Set, TextRefusal};
+use fcwfa::{Vote, Why, LARGEST, LONGEST_TEXT, LONGEST_WRITTEN};
 
 /// Case D: process 1 of four crashes in round 1 and reaches process 2 alone.
 const CASE_D: &str = include_str!("../../../schedules/case_d.text");
@@ -63,11 +63,27 @@ fn first_decided(report: &str) -> Option<(u8, usize)> {
     made.min_by_key(|&(_, round)| round)
 }
 
-/// What is accepted displays as the same text, runs as reported and has the outcome of the report; what is refused is refused with the number
-/// and the line reported.
+/// Why each process decided, as `why` prints it.
+fn printed_rules(schedule: &Schedule) -> String {
+    let mut lines = "id rule number\n".to_string();
+    for id in 1..=schedule.n() {
+        lines += &match schedule.why(id).unwrap() {
+            Why::Crashed { round } => format!("{id} crashed {round}\n"),
+            Why::Told { sender } => format!("{id} told {sender}\n"),
+            Why::ZerosOnly => format!("{id} zeros -\n"),
+            Why::Quiet { missing } => format!("{id} quiet {missing}\n"),
+            Why::RoundT { estimates } => format!("{id} round-t {estimates}\n"),
+            Why::LastRound => format!("{id} last -\n"),
+        };
+    }
+    lines
+}
+
+/// What is accepted displays as the same text, runs as reported, has the outcome of the report and the rules that stand beside it, where there
+/// are any; what is refused is refused with the number and the line reported.
 #[test]
 fn every_text_is_read_as_reported() {
-    let (mut accepted, mut numbers) = (0, HashSet::new());
+    let (mut accepted, mut explained, mut numbers) = (0, 0, HashSet::new());
     for (name, text, report) in texts() {
         let read = Schedule::from_bytes(&text);
         assert_eq!(Schedule::try_from(&text[..]), read, "{name}");
@@ -78,6 +94,10 @@ fn every_text_is_read_as_reported() {
                 let Decided { decision, round } = schedule.outcome();
                 let outcome = Some((decision.into(), round));
                 assert_eq!(outcome, first_decided(&report), "{name}");
+                if let Ok(rules) = fs::read_to_string(Path::new(&name).with_extension("why")) {
+                    assert_eq!(printed_rules(&schedule), rules, "{name}");
+                    explained += 1;
+                }
                 accepted += 1;
             }
             Err(refusal) => {
@@ -87,6 +107,7 @@ fn every_text_is_read_as_reported() {
         }
     }
     assert!(accepted > 0, "some texts are accepted");
+    assert!(explained >= 11, "the marked ones have their rules");
     assert_eq!(numbers, HashSet::from([1, 2, 4, 5, 6, 7, 8, 9]));
 }
 
@@ -102,6 +123,10 @@ fn a_schedule_shows_what_it_is() {
     assert_eq!(report, Ok(schedule.simulate()));
     let made = outcome(n, t, votes, schedule.crashes(), schedule.reaches());
     assert_eq!(made, Ok(schedule.outcome()));
+    for id in 0..=5 {
+        let made = why(n, t, votes, schedule.crashes(), schedule.reaches(), id);
+        assert_eq!(made, schedule.why(id));
+    }
 }
 
 #[test]

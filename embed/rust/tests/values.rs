@@ -119,7 +119,8 @@ fn refusals() -> Vec<Refusal> {
     (0..=255).filter_map(Refusal::from_number).collect()
 }
 
-/// Header and crate are of one version, of one size of clusters, of states and of texts, and have one order of what is read and of an outcome.
+/// Header and crate are of one version, of one size of clusters, of states and of texts, and have one order of what is read, of an outcome and
+/// of why a process decided.
 #[test]
 fn the_header_is_of_this_version() {
     let header = include_str!("../../fcwfa.h");
@@ -139,6 +140,9 @@ fn the_header_is_of_this_version() {
     let (decision, round) = (bytes::OUTCOME_DECISION, bytes::OUTCOME_ROUND);
     for (name, place) in [("DECISION", decision), ("ROUND", round)] {
         assert!(header.contains(&format!("#define FCWFA_OUTCOME_{name} {place}\n")));
+    }
+    for (name, place) in [("KIND", bytes::WHY_KIND), ("NUMBER", bytes::WHY_NUMBER)] {
+        assert!(header.contains(&format!("#define FCWFA_WHY_{name} {place}\n")));
     }
 }
 
