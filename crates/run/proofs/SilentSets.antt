@@ -2,7 +2,7 @@
 -- that crashed before, from those that crash in the round where their reach does not name the hearer, and from nobody else. Assumes nothing.
 use mathlib.Core.Path.{_≡_, sym, ap, _∙_}
 use mathlib.Core.Logic.{_⊎_, inl, inr}
-use mathlib.Core.Bool.{true, false, not, true≢false}
+use mathlib.Core.Bool.{true, false, not}
 use Prim.Native.Nat.{ℕ, suc, _≤_, _<_}
 use native.Mathlib.Nat.{eq-zero-or-pos}
 use native.Mathlib.Omega.{arith}
@@ -20,15 +20,14 @@ use Rattle.run.specs.Protocol.{fcwfa}
 use Rattle.run.specs.Run.{statesAfter, after}
 use Rattle.run.specs.Facts.{WhoHearsWhom}
 use Rattle.run.specs.SilentSets.{SetsInRound, NamesCrashed, SilentSets}
-use Rattle.run.proofs.World.{Plays, NotTold, hears-nothing, hears-estimate, hears-decision}
-use Rattle.run.proofs.States.{bits, said-before, missing}
-use Rattle.run.proofs.Rows.{counts-of, is-told}
+use Rattle.run.proofs.World.{Plays, NotTold}
+use Rattle.run.proofs.States.{said-before, missing}
 use Rattle.run.proofs.Behaviour.{waiting, fresh, over}
 use Rattle.run.proofs.FcwfaMember.{Stands, behaves}
 use Rattle.run.proofs.Rounds.{completes-if, who-hears-whom}
 use Rattle.run.proofs.CrashRounds.{alive, round-crash}
 use Rattle.run.proofs.RunWorld.{codeOf, row-is, state-is, phase-at, hearing}
-use Rattle.run.proofs.FcwfaRun.{runWorld, laws}
+use Rattle.run.proofs.FcwfaRun.{runWorld, laws, untold-low}
 
 module _ (s : Schedule) (ok : Rules s) (r i : ℕ) (rt : r ≤ s .t) (h : SetsInRound s r i) where
   -- what i hears from j
@@ -52,14 +51,7 @@ module _ (s : Schedule) (ok : Rules s) (r i : ℕ) (rt : r ≤ s .t) (h : SetsIn
 
   -- no decided message is among the codes
   low : NotTold (runWorld s) r i
-  low j jl =
-      let b = bits (runWorld s) (laws s ok) r (omega arith) j jl in
-      elim (laws s ok .heard r i j rt (plays .process) jl) [
-        | hears-nothing e _ ↦ omega arith
-        | hears-estimate _ _ e ↦ omega arith
-        | hears-decision _ _ _ e ↦
-            absurd (true≢false (sym (is-told (s .n) heard _ (counts-of (s .n) heard) j jl (omega arith) (omega arith)) ∙ sets-row .untold))
-      ]
+  low = untold-low s ok r i rt (plays .process) (sets-row .untold)
 
   -- the set names those that sent no estimate
   named : (j : ℕ) → j < s .n → names (after fcwfa s (suc r) i .silent) j ≡ not (isEstimate (heard j))

@@ -31,7 +31,7 @@ use Rattle.run.specs.Protocol.{fcwfa}
 use Rattle.run.specs.Run.{codeHeard, rowOf, statesAfter, after, final}
 use Rattle.run.specs.Demand.{Completes, Decides}
 use Rattle.run.specs.Why.{ownRound, whyOf, heardOf, ByMessage, ByZeros, ByQuiet, ByCount, ByLast, RuleSays, ByCrash, WhyPromises}
-use Rattle.run.proofs.World.{Plays}
+use Rattle.run.proofs.World.{Plays, hears-nothing, hears-estimate, hears-decision}
 use Rattle.run.proofs.States.{bits, range, stays, made-at, heard-decision}
 use Rattle.run.proofs.Votes.{none-in-1}
 use Rattle.run.proofs.Rows.{Counts, counts-of, some-one, no-one, told-value, is-told}
@@ -43,7 +43,7 @@ use Rattle.run.proofs.CrashesSoFar.{by-last-round}
 use Rattle.run.proofs.Behaviour.{waiting, fresh, over}
 use Rattle.run.proofs.CrashRounds.{living}
 use Rattle.run.proofs.RunWorld.{codeOf, row-is, phase-at, hearing}
-use Rattle.run.proofs.FcwfaRun.{runWorld, laws, rules}
+use Rattle.run.proofs.FcwfaRun.{runWorld, laws, rules, untold-low}
 use Rattle.run.proofs.Demand.{end-is, lasts, demand-3}
 
 -- the codes that are decided messages
@@ -131,6 +131,17 @@ module _ (s : Schedule) (ok : Rules s) (i : ℕ) (il : i < s .n) where
     row-at : (j : ℕ) → j < s .n → getD row j 0 ≡ c j
     row-at j jl = getD-tabulate (s .n) c j 0 jl
 
+    -- it hears its own estimate
+    own-estimate : c i ≡ suc (m .estimate)
+    own-estimate =
+        let a = plays .alive in
+        let u = plays .undecided in
+        elim (laws s ok .heard r i i rt il il) [
+          | hears-nothing _ stopped-before ↦ absurd (let h = stopped-before a .0 in omega arith)
+          | hears-estimate _ _ e ↦ e
+          | hears-decision _ p d _ ↦ absurd (omega arith)
+        ]
+
     -- What is said of the row, as it is named in round d.
     module _ (v d : ℕ) (in-round : d ≡ suc r) (decides : Decides fcwfa s i v d) (number : ℕ) where
       before : d - 1 ≡ r
@@ -194,6 +205,18 @@ module _ (s : Schedule) (ok : Rules s) (i : ℕ) (il : i < s .n) where
                   ap isDecision (heard-is j ∙ sym (row-at j (omega arith))) ∙ none-before row j l;
             }
 
+      -- where no estimate 1 was heard its own is 0, and is decided
+      zero-decided : told k ≡ false → k .ones ≡ 0 → v ≡ 0
+      zero-decided none zeros =
+          let own = own-estimate in
+          let not-1 : c i ≢ 2 = no-one (s .n) c k counted zeros i il in
+          let bit = bits (runWorld s) (laws s ok) r (omega arith) i il in
+          let low = laws s ok .never-rises r i plays (untold-low s ok r i rt il none) in
+          let stays-so = stays (runWorld s) (laws s ok) (suc r) (suc (s .t)) i (omega arith) (omega arith) il (omega arith) .1 in
+          let end = ap (λ (x : Member). x .estimate) (end-is s ok i) in
+          let value = decides .value in
+          omega arith
+
       -- by the rule that is met
       says : (met : Rule) → ruleHeard m k ≡ met → Chosen (s .n) (s .t) (suc r) k met → number ≡ ruleNumber met (m .n) row → RuleSays s i v d number met
       unfolding ruleNumber
@@ -202,6 +225,7 @@ module _ (s : Schedule) (ok : Rules s) (i : ℕ) (il : i < s .n) where
         untold = untold none;
         in-round-2 = in-round ∙ two;
         zeros-only = λ j jl h. no-one (s .n) c k counted zeros j jl (sym (heard-is j) ∙ h);
+        decides-0 = zero-decided none zeros;
         no-number = e;
       }
       says met named (rule.by-quiet none ones early few) e =

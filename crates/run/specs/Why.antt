@@ -54,11 +54,12 @@ module _ (s : Schedule) (i : ℕ) where
       pub message : heardOf sender ≡ decidedCode v
       pub lowest : (j : ℕ) → j < sender → isDecision (heardOf j) ≡ false
 
-    -- without a decided message: "round 2 with zeros only"
+    -- without a decided message: "round 2 with zeros only"; so 0 is decided
     pub record ByZeros : Type 0 where
       pub untold : (j : ℕ) → j < s .n → isDecision (heardOf j) ≡ false
       pub in-round-2 : d ≡ 2
       pub zeros-only : (j : ℕ) → j < s .n → heardOf j ≢ estimateCode 1
+      pub decides-0 : v ≡ 0
       pub no-number : number ≡ 0
 
     -- "a quiet round with its number of missing estimates": one of rounds up to t − 1 with at most d − 2 missing. In round 2 it is not named with zeros only.
