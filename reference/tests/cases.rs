@@ -8,27 +8,15 @@
 //! The first deciders are worked by hand from document 02, K3: the smallest decided round, then a survivor, then the
 //! lower number.
 
+mod shared;
+
 use reference::questions::Refusal;
 use reference::report::answer;
 use reference::run::{run, run_heard, Run, NONE};
-use reference::schedule::{bit, Schedule};
+use reference::schedule::Schedule;
 use reference::text::{read, write};
 
-/// A crash: the process, its crash round, and its reach in letters.
-type Crash = (usize, u8, &'static str);
-
-/// A schedule with n = 4 and t = 3, all votes 1.
-fn schedule(crashes: &[Crash]) -> Schedule {
-    let mut schedule = Schedule::quiet(4, 3);
-    for (i, round, letters) in crashes {
-        schedule.crashes[i - 1] = *round;
-        let named = (1..)
-            .zip(letters.chars())
-            .filter(|(_, letter)| *letter == '1');
-        schedule.reaches[i - 1] = named.map(|(j, _)| bit(j)).sum();
-    }
-    schedule
-}
+use shared::schedule;
 
 /// The answers as document 01 writes them: decision@round or - for each process.
 fn answers(run: &Run) -> String {

@@ -2,10 +2,10 @@
 //! document 01 gives, those of the further schedules from its rules. What K6 says of every outcome is tested on schedules
 //! of every size.
 
+mod shared;
+
 use std::fs;
-use std::io::Write;
-use std::path::{Path, PathBuf};
-use std::process::{Command, Output, Stdio};
+use std::path::Path;
 
 use reference::outcome::{answer, of_run, outcome, Outcome};
 use reference::questions::{Refusal, MIN_CRASHES, SIZES};
@@ -14,21 +14,7 @@ use reference::schedule::{bit, everyone, Schedule};
 use reference::text::write;
 use reference::{Set, LARGEST, LONGEST};
 
-/// A crash: the process, its crash round, and its reach in letters.
-type Crash = (usize, u8, &'static str);
-
-/// A schedule with n = 4 and t = 3, all votes 1.
-fn schedule(crashes: &[Crash]) -> Schedule {
-    let mut schedule = Schedule::quiet(4, 3);
-    for (i, round, letters) in crashes {
-        schedule.crashes[i - 1] = *round;
-        let named = (1..)
-            .zip(letters.chars())
-            .filter(|(_, letter)| *letter == '1');
-        schedule.reaches[i - 1] = named.map(|(j, _)| bit(j)).sum();
-    }
-    schedule
-}
+use shared::{called, schedule, texts, Random};
 
 /// Expects the outcome of a schedule, from tables and from its text.
 fn expect(schedule: &Schedule, value: u8, round: u8) {
@@ -209,33 +195,7 @@ fn refused_texts_print_three_lines() {
     assert_eq!(printed(&too_long), "refused line\n8 0\n\n");
 }
 
-/// A small fixed generator of numbers (xorshift).
-struct Random(u64);
-
 impl Random {
-    fn next(&mut self) -> u64 {
-        self.0 ^= self.0 << 13;
-        self.0 ^= self.0 >> 7;
-        self.0 ^= self.0 << 17;
-        self.0
-    }
-
-    /// A number below the limit, which isn't 0.
-    fn below(&mut self, limit: usize) -> usize {
-        (self.next() % limit as u64) as usize
-    }
-
-    /// A reach of process i of n: anybody, nobody, one process, or everybody else.
-    fn reach(&mut self, n: usize, i: usize) -> Set {
-        let others = everyone(n) & !bit(i);
-        match self.below(4) {
-            0 => 0,
-            1 => others,
-            2 => others & bit(self.below(n) + 1),
-            _ => others & self.next(),
-        }
-    }
-
     /// An accepted schedule, whose votes are mostly all 1. The crashes are in any rounds, or in the first few, or one in
     /// each round.
     fn schedule(&mut self, n: usize, t: usize) -> Schedule {
@@ -326,31 +286,6 @@ fn the_schedules_are_of_many_kinds() {
     }
     assert!(last_differs > 1_000, "only {last_differs}");
     assert!(lowest_differs > 100, "only {lowest_differs}");
-}
-
-/// Calls the program with these arguments and a text.
-fn called(arguments: &[&str], text: &[u8]) -> Output {
-    let mut child = Command::new(env!("CARGO_BIN_EXE_reference"))
-        .args(arguments)
-        .stdin(Stdio::piped())
-        .stdout(Stdio::piped())
-        .stderr(Stdio::piped())
-        .spawn()
-        .expect("the program starts");
-    // The program may end before it has read the text, so the writing may fail.
-    let _ = child.stdin.take().expect("it is piped").write_all(text);
-    child.wait_with_output().expect("the program ends")
-}
-
-/// The paths of all texts in `schedules`.
-fn texts() -> Vec<PathBuf> {
-    let directory = Path::new(env!("CARGO_MANIFEST_DIR")).join("../schedules");
-    let entries = fs::read_dir(directory).expect("the directory is there");
-    let paths = entries.map(|entry| entry.expect("the entry is there").path());
-    let is_text = |path: &PathBuf| path.extension().map_or(false, |end| end == "text");
-    let texts: Vec<PathBuf> = paths.filter(is_text).collect();
-    assert!(texts.len() >= 287, "only {} texts", texts.len());
-    texts
 }
 
 /// What has to be printed for a text with this report: the report itself if it is a refusal, else the value and the round

@@ -5,32 +5,15 @@
 //! After a row that sets it in round r, the set names each process that crashed before round r and none whose crash
 //! round is 0 or above r. One that crashes in r is named exactly if its message didn't come.
 
+mod shared;
+
 use reference::member::Member;
 use reference::run::{run_heard, Hearing};
 use reference::schedule::{bit, everyone, Schedule};
 use reference::silent::{check, sets, settings, Settings};
 use reference::Set;
 
-/// A crash: the process, its crash round, and its reach in letters.
-type Crash = (usize, u8, &'static str);
-
-/// A set in letters, place j for process j.
-fn set(letters: &str) -> Set {
-    let named = (1..)
-        .zip(letters.chars())
-        .filter(|(_, letter)| *letter == '1');
-    named.map(|(j, _)| bit(j)).sum()
-}
-
-/// A schedule with n = 4 and t = 3, all votes 1.
-fn schedule(crashes: &[Crash]) -> Schedule {
-    let mut schedule = Schedule::quiet(4, 3);
-    for (i, round, letters) in crashes {
-        schedule.crashes[i - 1] = *round;
-        schedule.reaches[i - 1] = set(letters);
-    }
-    schedule
-}
+use shared::{all_schedules, schedule, set};
 
 /// The hearings of a schedule, which break nothing. A row that doesn't set the set leaves it; after one that does, it
 /// is as large as n minus the estimates heard; and the state stays in range.
@@ -295,32 +278,6 @@ fn sets_that_are_let_pass() {
     // A row of round 1 and one that a decided member hears.
     broken(&case_e, (1, 3), "0100", "");
     broken(&schedule(&[(1, 1, "0000")]), (3, 2), "0011", "");
-}
-
-/// All schedules with n = 4 and t = 3 in which all vote 1: each process has 33 ways to crash or not, and not all crash.
-fn all_schedules(mut each: impl FnMut(&Schedule)) -> usize {
-    let mut count = 0;
-    for number in 0..33_usize.pow(4) {
-        let mut schedule = Schedule::quiet(4, 3);
-        for i in 1..=4 {
-            let way = number / 33_usize.pow(i as u32 - 1) % 33;
-            if way != 0 {
-                schedule.crashes[i - 1] = (way - 1) as u8 / 8 + 1;
-                schedule.reaches[i - 1] = among_others(i, (way - 1) as Set % 8);
-            }
-        }
-        if schedule.f() <= 3 {
-            count += 1;
-            each(&schedule);
-        }
-    }
-    count
-}
-
-/// A set of the three processes other than i, from three bits.
-fn among_others(i: usize, bits: Set) -> Set {
-    let below = bits & (bit(i) - 1);
-    below | (bits ^ below) << 1
 }
 
 /// The counts by rounds are worked by hand beside those of the matching, in `matching/src/small.rs`. With a vote 0 all

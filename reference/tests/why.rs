@@ -3,10 +3,10 @@
 //! schedules, the chains and the edges of every size. What holds of every answer is tested on schedules of every size, and
 //! on every schedule with n = 4, t = 3 in which all vote 1.
 
+mod shared;
+
 use std::fs;
-use std::io::Write;
-use std::path::{Path, PathBuf};
-use std::process::{Command, Output, Stdio};
+use std::path::Path;
 
 use reference::member::{Member, DECIDED_0, DECIDED_1, ESTIMATE_0, ESTIMATE_1, NOTHING};
 use reference::questions::{Refusal, MIN_CRASHES, SIZES};
@@ -16,26 +16,7 @@ use reference::text::{read, write};
 use reference::why::{answer, first_met, heard_in, of_all, why, Why, WORDS};
 use reference::{Set, LARGEST, LONGEST};
 
-/// A crash: the process, its crash round, and its reach in letters.
-type Crash = (usize, u8, &'static str);
-
-/// A set in letters, place j for process j.
-fn set(letters: &str) -> Set {
-    let named = (1..)
-        .zip(letters.chars())
-        .filter(|(_, letter)| *letter == '1');
-    named.map(|(j, _)| bit(j)).sum()
-}
-
-/// A schedule with n = 4 and t = 3, all votes 1.
-fn schedule(crashes: &[Crash]) -> Schedule {
-    let mut schedule = Schedule::quiet(4, 3);
-    for (i, round, letters) in crashes {
-        schedule.crashes[i - 1] = *round;
-        schedule.reaches[i - 1] = set(letters);
-    }
-    schedule
-}
+use shared::{all_schedules, called, schedule, texts, Random};
 
 /// Expects the lines of all processes of a schedule, without their numbers, from its text; and the same from tables.
 fn expect(schedule: &Schedule, lines: &[&str]) {
@@ -575,33 +556,7 @@ fn check_numbers(schedule: &Schedule, run: &Run, i: usize, why: Why) {
     }
 }
 
-/// A small fixed generator of numbers (xorshift).
-struct Random(u64);
-
 impl Random {
-    fn next(&mut self) -> u64 {
-        self.0 ^= self.0 << 13;
-        self.0 ^= self.0 >> 7;
-        self.0 ^= self.0 << 17;
-        self.0
-    }
-
-    /// A number below the limit, which isn't 0.
-    fn below(&mut self, limit: usize) -> usize {
-        (self.next() % limit as u64) as usize
-    }
-
-    /// A reach of process i of n: anybody, nobody, one process, or everybody else.
-    fn reach(&mut self, n: usize, i: usize) -> Set {
-        let others = everyone(n) & !bit(i);
-        match self.below(4) {
-            0 => 0,
-            1 => others,
-            2 => others & bit(self.below(n) + 1),
-            _ => others & self.next(),
-        }
-    }
-
     /// An accepted schedule, whose votes are mostly all 1. The crashes are in any rounds, or in the first few, or one in
     /// each round, from round 1 or 2 on; these are often t or t - 1 in number.
     fn schedule(&mut self, n: usize, t: usize) -> Schedule {
@@ -709,32 +664,6 @@ fn the_schedules_are_of_many_kinds() {
     assert!(numbers > 30, "only {numbers} numbers of missing ones");
 }
 
-/// All schedules with n = 4 and t = 3 in which all vote 1: each process has 33 ways to crash or not, and not all crash.
-fn all_schedules(mut each: impl FnMut(&Schedule)) -> usize {
-    let mut count = 0;
-    for number in 0..33_usize.pow(4) {
-        let mut schedule = Schedule::quiet(4, 3);
-        for i in 1..=4 {
-            let way = number / 33_usize.pow(i as u32 - 1) % 33;
-            if way != 0 {
-                schedule.crashes[i - 1] = (way - 1) as u8 / 8 + 1;
-                schedule.reaches[i - 1] = among_others(i, (way - 1) as Set % 8);
-            }
-        }
-        if schedule.f() <= 3 {
-            count += 1;
-            each(&schedule);
-        }
-    }
-    count
-}
-
-/// A set of the three processes other than i, from three bits.
-fn among_others(i: usize, bits: Set) -> Set {
-    let below = bits & (bit(i) - 1);
-    below | (bits ^ below) << 1
-}
-
 /// How often each rule is named is worked by hand beside the numbers of the matching, in `matching/src/small.rs`. With a
 /// vote 0 whoever completes round 2 hears zeros only.
 #[test]
@@ -752,31 +681,6 @@ fn every_schedule_with_n_4_and_t_3_in_which_all_vote_1() {
     assert_eq!(count, 137_345);
     assert_eq!(kinds, [254_944, 21_348, 41_116, 117_748, 94_896, 19_328]);
     assert_eq!(kinds.iter().sum::<usize>(), 4 * count);
-}
-
-/// Calls the program with these arguments and a text.
-fn called(arguments: &[&str], text: &[u8]) -> Output {
-    let mut child = Command::new(env!("CARGO_BIN_EXE_reference"))
-        .args(arguments)
-        .stdin(Stdio::piped())
-        .stdout(Stdio::piped())
-        .stderr(Stdio::piped())
-        .spawn()
-        .expect("the program starts");
-    // The program may end before it has read the text, so the writing may fail.
-    let _ = child.stdin.take().expect("it is piped").write_all(text);
-    child.wait_with_output().expect("the program ends")
-}
-
-/// The paths of all texts in `schedules`.
-fn texts() -> Vec<PathBuf> {
-    let directory = Path::new(env!("CARGO_MANIFEST_DIR")).join("../schedules");
-    let entries = fs::read_dir(directory).expect("the directory is there");
-    let paths = entries.map(|entry| entry.expect("the entry is there").path());
-    let is_text = |path: &PathBuf| path.extension().map_or(false, |end| end == "text");
-    let texts: Vec<PathBuf> = paths.filter(is_text).collect();
-    assert!(texts.len() >= 287, "only {} texts", texts.len());
-    texts
 }
 
 /// The lines of the processes, split into three fields each: of a report, or of what is printed for it.

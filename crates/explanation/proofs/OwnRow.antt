@@ -1,14 +1,12 @@
 -- The row of a process in its own round, as the code forms it, is the one that it heard in the run: the members stand as they did before that round, what
 -- they say is what they said, and the row is delivered from it. No call of a member is refused in a run, so the member answers by which rule it decided.
 -- Assumes nothing.
-use mathlib.Core.Path.{_≡_, refl, sym, ap, ap₂, _∙_}
-use mathlib.Core.Logic.{_≢_}
+use mathlib.Core.Path.{_≡_, sym, ap, ap₂, _∙_}
 use mathlib.Core.List.{List, []}
-use mathlib.Core.Bool.{Bool, true}
-use Prim.Native.Nat.{ℕ, suc, _+_, _-_, _≤_, _<_, min}
+use mathlib.Core.Bool.{true}
+use Prim.Native.Nat.{ℕ, suc, _+_, _-_, _<_, min}
 use native.Mathlib.Omega.{arith}
 use lib.ListN.{getD, take, replicate}
-use Rattle.laws.specs.Below.{tabulate}
 use Rattle.laws.specs.Answer.{Answer, accepted}
 use Rattle.laws.specs.Filled.{Overwritten}
 use Rattle.laws.proofs.Answer.{answer-accepted, place-given}
@@ -18,7 +16,6 @@ use Rattle.sets.specs.Largest.{largest, fitting}
 use Rattle.member.specs.declared.Member.{Member}
 use Rattle.member.specs.declared.Reason.{Reason}
 use Rattle.member.specs.Saying.{nothing}
-use Rattle.member.specs.Reasons.{reasonHeard}
 use Rattle.member.specs.Answers.{explainAnswer}
 use Rattle.schedule.specs.Schedule.{Schedule, crashOf, reachOf}
 use Rattle.schedule.specs.Questions.{question, Accepted}

@@ -7,7 +7,6 @@ use Prim.Native.Nat.{ℕ, _+_, _-_, _≤_, _<_, min}
 use native.Mathlib.Omega.{arith}
 use borrow.Author.Tests.{eq-eqb, ne-eqb}
 use lib.Dec.{eqb}
-use lib.ListN.{length}
 use Rattle.laws.specs.Test.{within}
 use Rattle.laws.specs.Answer.{ask, andThen, accepted, refused}
 use Rattle.laws.proofs.Test.{cond-true, cond-false, within-low, within-high}
@@ -20,7 +19,7 @@ use Rattle.member.specs.Answers.{explainedIs}
 use Rattle.sets.specs.Largest.{largest}
 use Rattle.schedule.specs.Schedule.{Schedule, crashOf}
 use Rattle.schedule.specs.Questions.{answersOf, question}
-use Rattle.schedule.proofs.Accepted.{answers-long, question-accepted}
+use Rattle.schedule.proofs.Accepted.{answers-long}
 use Rattle.run.specs.Protocol.{fcwfa}
 use Rattle.run.specs.Run.{stateAt}
 use Rattle.run.specs.Why.{ownRound, whyOf, WhyPromises}

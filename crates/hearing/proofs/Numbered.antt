@@ -2,14 +2,12 @@
 use mathlib.Core.Path.{_≡_, refl, sym, ap, _∙_}
 use mathlib.Core.List.{List, [], _∷_}
 use mathlib.Core.Bool.{true}
-use Prim.Native.Nat.{ℕ, _+_, _-_, _≤_}
+use Prim.Native.Nat.{ℕ, _+_, _-_}
 use types.Run.{OneOf, miss}
 use denote.Enum.Declared.{tagOf}
-use lib.ListN.{length}
 use Rattle.laws.specs.Answer.{accepted, refused}
 use Rattle.laws.proofs.Answer.{passed, accepted-is, refused-is, answer-accepted, answer-refused}
 use native.Mathlib.Omega.{arith}
-use Rattle.sets.specs.Largest.{largest}
 use Rattle.member.specs.declared.Member.{Member}
 use Rattle.member.specs.declared.Tally.{Tally}
 use Rattle.member.specs.declared.Reason.{Reason}

@@ -4,14 +4,14 @@
 use mathlib.Core.Path.{_≡_, refl, sym, ap, ap₂, _∙_, subst}
 use mathlib.Core.Logic.{inl, inr, _≢_}
 use mathlib.Core.List.{List}
-use mathlib.Core.Bool.{Bool, true, false, not, true≢false}
+use mathlib.Core.Bool.{true, false, not, true≢false}
 use Prim.Native.Nat.{ℕ, suc, _+_, _-_, _≤_, _<_}
 use native.Mathlib.Nat.{eq-zero-or-pos}
 use native.Mathlib.Omega.{arith}
 use lib.Dec.{eqb}
-use lib.ListN.{length, getD}
+use lib.ListN.{getD}
 use borrow.Author.Tests.{eqb-true, eq-eqb, ne-eqb}
-use Rattle.laws.specs.Below.{count, tabulate}
+use Rattle.laws.specs.Below.{tabulate}
 use Rattle.laws.proofs.Test.{true-or-false, or-true, cond-true, cond-false}
 use Rattle.laws.proofs.Counting.{Some, count-same, count-not}
 use Rattle.laws.proofs.Lists.{length-tabulate, getD-tabulate}
@@ -25,12 +25,12 @@ use Rattle.member.specs.Hearing.{tallyOf, isEstimate, estimates, told, toldValu
 use Rattle.member.specs.Reasons.{isDecision, lowestSender, ruleHeard, ruleNumber, reasonHeard}
 use Rattle.member.proofs.Promises.{told-bit, reason-promises}
 use Rattle.member.proofs.Reasons.{none-before, sender-here, sender-low}
-use Rattle.schedule.specs.Schedule.{Schedule, crashOf}
+use Rattle.schedule.specs.Schedule.{Schedule}
 use Rattle.schedule.specs.Questions.{Rules}
 use Rattle.run.specs.Protocol.{fcwfa}
 use Rattle.run.specs.Run.{codeHeard, rowOf, statesAfter, after, final}
 use Rattle.run.specs.Demand.{Completes, Decides}
-use Rattle.run.specs.Why.{ownRound, whyOf, heardOf, ByMessage, ByZeros, ByQuiet, ByCount, ByLast, RuleSays, ByCrash, WhyPromises}
+use Rattle.run.specs.Why.{ownRound, whyOf, heardOf, ByMessage, RuleSays, ByCrash, WhyPromises}
 use Rattle.run.proofs.World.{Plays, hears-nothing, hears-estimate, hears-decision}
 use Rattle.run.proofs.States.{bits, range, stays, made-at, heard-decision}
 use Rattle.run.proofs.Votes.{none-in-1}

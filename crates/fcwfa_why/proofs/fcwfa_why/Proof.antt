@@ -1,6 +1,6 @@
 -- `fcwfa_why` meets its contract: its number and the two numbers are those of the answer of `explain`. Assumes nothing.
-use mathlib.Core.Path.{_≡_, refl, sym, ap, _∙_}
-use mathlib.Core.List.{List, [], _∷_}
+use mathlib.Core.Path.{sym, ap, _∙_}
+use mathlib.Core.List.{[], _∷_}
 use Prim.Native.Nat.{ℕ}
 use borrow.Author.Needs.{needs}
 use Rattle.laws.proofs.Answer.{refused-is, answer-given, answer-kept}

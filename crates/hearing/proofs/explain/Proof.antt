@@ -3,7 +3,6 @@ use mathlib.Core.Path.{_≡_, sym, ap, _∙_}
 use native.Mathlib.Omega.{arith}
 use borrow.Author.Needs.{needs}
 use denote.Ref.{now}
-use Rattle.laws.specs.Answer.{accepted}
 use Rattle.sets.specs.Largest.{largest}
 use Rattle.member.specs.Questions.{hearQuestion}
 use Rattle.member.specs.Answers.{heardIs}

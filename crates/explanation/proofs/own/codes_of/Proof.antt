@@ -5,7 +5,7 @@ use borrow.Author.Needs.{needs}
 use lib.ListN.{replicate, length-replicate}
 use Rattle.sets.specs.Largest.{largest}
 use Rattle.laws.specs.Filled.{Overwritten}
-use Rattle.laws.proofs.Overwritten.{over-start, over-more, over-long, over-all}
+use Rattle.laws.proofs.Overwritten.{over-start, over-more, over-all}
 use Rattle.run.specs.Run.{codeSaid}
 use Rattle.execution.specs.Calls.{calls}
 use Rattle.explanation.proofs.own.codes_of.Statement.{statement}
