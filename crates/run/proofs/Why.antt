@@ -11,9 +11,10 @@ use native.Mathlib.Omega.{arith}
 use lib.Dec.{eqb}
 use lib.ListN.{getD}
 use borrow.Author.Tests.{eqb-true, eq-eqb, ne-eqb}
-use Rattle.laws.specs.Below.{tabulate}
-use Rattle.laws.proofs.Test.{true-or-false, or-true, cond-true, cond-false}
-use Rattle.laws.proofs.Counting.{Some, count-same, count-not}
+use Rattle.laws.specs.Test.{within}
+use Rattle.laws.specs.Below.{count, tabulate}
+use Rattle.laws.proofs.Test.{true-or-false, or-true, cond-true, cond-false, within-low, within-high}
+use Rattle.laws.proofs.Counting.{Some, split, count-mono, count-same, count-not}
 use Rattle.laws.proofs.Lists.{length-tabulate, getD-tabulate}
 use Rattle.member.specs.declared.Member.{Member}
 use Rattle.member.specs.declared.Tally.{Tally}
@@ -25,7 +26,7 @@ use Rattle.member.specs.Hearing.{tallyOf, isEstimate, estimates, told, toldValu
 use Rattle.member.specs.Reasons.{isDecision, lowestSender, ruleHeard, ruleNumber, reasonHeard}
 use Rattle.member.proofs.Promises.{told-bit, reason-promises}
 use Rattle.member.proofs.Reasons.{none-before, sender-here, sender-low}
-use Rattle.schedule.specs.Schedule.{Schedule}
+use Rattle.schedule.specs.Schedule.{Schedule, crashOf, crashedBy}
 use Rattle.schedule.specs.Questions.{Rules}
 use Rattle.run.specs.Protocol.{fcwfa}
 use Rattle.run.specs.Run.{codeHeard, rowOf, statesAfter, after, final}
@@ -38,8 +39,8 @@ use Rattle.run.proofs.Rows.{Counts, counts-of, some-one, no-one, told-v
 use Rattle.run.proofs.Chosen as rule
 use Rattle.run.proofs.Chosen.{Chosen}
 use Rattle.run.proofs.FcwfaMember.{Stands, behaves, Later, later}
-use Rattle.run.proofs.Rounds.{completes-if}
-use Rattle.run.proofs.CrashesSoFar.{by-last-round}
+use Rattle.run.proofs.Rounds.{completes-if, who-hears-whom}
+use Rattle.run.proofs.CrashesSoFar.{by-crashes-so-far, by-last-round}
 use Rattle.run.proofs.Behaviour.{waiting, fresh, over}
 use Rattle.run.proofs.CrashRounds.{living}
 use Rattle.run.proofs.RunWorld.{codeOf, row-is, phase-at, hearing}
@@ -142,6 +143,30 @@ module _ (s : Schedule) (ok : Rules s) (i : ℕ) (il : i < s .n) where
           | hears-decision _ p d _ ↦ absurd (omega arith)
         ]
 
+    -- who crashed before the round is missing in it
+    missing-all : crashedBy s r ≤ count (s .n) (λ j. not (isEstimate (c j)))
+    unfolding crashedBy
+    missing-all =
+        count-mono (s .n) (λ j. within 1 (crashOf s j) r) (λ j. not (isEstimate (c j))) (λ j _ e.
+        let low = within-low 1 (crashOf s j) r e in
+        let high = within-high 1 (crashOf s j) r e in
+        ap (λ (x : ℕ). not (isEstimate x)) (who-hears-whom fcwfa s (suc r) (statesAfter fcwfa s r) j i .silent low (omega arith)))
+
+    -- and by the crashes so far these are as many as a quiet round may miss
+    missing-low : suc r ≤ s .t → r ≤ count (s .n) (λ j. not (isEstimate (c j))) + 1
+    missing-low early =
+        elim (split r 1) [
+          | inl one ↦ omega arith
+          | inr more ↦
+              let a = plays .alive in
+              let so-far =
+              by-crashes-so-far s ok .early r i more (omega arith)
+              (record { completes-it = record { process = il; completed = living s r i (omega arith) }; undecided = plays .undecided })
+              in
+              let all = missing-all in
+              omega arith
+        ]
+
     -- What is said of the row, as it is named in round d.
     module _ (v d : ℕ) (in-round : d ≡ suc r) (decides : Decides fcwfa s i v d) (number : ℕ) where
       before : d - 1 ≡ r
@@ -239,11 +264,20 @@ module _ (s : Schedule) (ok : Rules s) (i : ℕ) (il : i < s .n) where
             early = omega arith;
             missing = omega arith;
             few = omega arith;
+            no-fewer = let low = missing-low (omega arith) in omega arith;
           }
       says met named (rule.by-count none at-t many) e =
           let est = counted .estimates-are in
           let same = count-same (s .n) (λ j. isEstimate (heard j)) (λ j. isEstimate (c j)) (λ j _. ap isEstimate (heard-is j)) in
-          record { untold = untold none; in-round-t = in-round ∙ at-t; estimates = omega arith; many = omega arith }
+          let all = count-not (s .n) (λ j. isEstimate (c j)) in
+          let high = ok .t-high in
+          record {
+            untold = untold none;
+            in-round-t = in-round ∙ at-t;
+            estimates = omega arith;
+            many = omega arith;
+            no-more = let low = missing-low (omega arith) in omega arith;
+          }
       says met named (rule.by-last none last) e = record { untold = untold none; in-last = in-round ∙ last; no-number = e }
       says met named (rule.by-none _ _ _ _ _) e = some-rule named
 

@@ -54,32 +54,39 @@ module _ (s : Schedule) (i : ℕ) where
       pub message : heardOf sender ≡ decidedCode v
       pub lowest : (j : ℕ) → j < sender → isDecision (heardOf j) ≡ false
 
-    -- without a decided message: "round 2 with zeros only"; so 0 is decided
+    -- by the other rules no decided message was heard
+    abbrev pub Untold : Type 0
+    Untold = (j : ℕ) → j < s .n → isDecision (heardOf j) ≡ false
+
+    -- "round 2 with zeros only"; so 0 is decided
     pub record ByZeros : Type 0 where
-      pub untold : (j : ℕ) → j < s .n → isDecision (heardOf j) ≡ false
+      pub untold : Untold
       pub in-round-2 : d ≡ 2
       pub zeros-only : (j : ℕ) → j < s .n → heardOf j ≢ estimateCode 1
       pub decides-0 : v ≡ 0
       pub no-number : number ≡ 0
 
     -- "a quiet round with its number of missing estimates": one of rounds up to t − 1 with at most d − 2 missing. In round 2 it is not named with zeros only.
+    -- And no fewer are missing: by the crashes so far, the process would have decided sooner.
     pub record ByQuiet : Type 0 where
-      pub untold : (j : ℕ) → j < s .n → isDecision (heardOf j) ≡ false
+      pub untold : Untold
       pub not-zeros-only : d ≡ 2 → (j : ℕ) × (j < s .n) × (heardOf j ≡ estimateCode 1)
       pub early : d ≤ s .t - 1
       pub missing : number ≡ count (s .n) (λ j. not (isEstimate (heardOf j)))
       pub few : number ≤ d - 2
+      pub no-fewer : d - 2 ≤ number
 
-    -- "round t with its number of estimates": at least n − t + 1
+    -- "round t with its number of estimates": at least n − t + 1, and for the same reason at most one more
     pub record ByCount : Type 0 where
-      pub untold : (j : ℕ) → j < s .n → isDecision (heardOf j) ≡ false
+      pub untold : Untold
       pub in-round-t : d ≡ s .t
       pub estimates : number ≡ count (s .n) (λ j. isEstimate (heardOf j))
       pub many : s .n - s .t + 1 ≤ number
+      pub no-more : number ≤ s .n - s .t + 2
 
     -- "or the last round"
     pub record ByLast : Type 0 where
-      pub untold : (j : ℕ) → j < s .n → isDecision (heardOf j) ≡ false
+      pub untold : Untold
       pub in-last : d ≡ s .t + 1
       pub no-number : number ≡ 0
 
