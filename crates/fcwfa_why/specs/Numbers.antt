@@ -27,7 +27,7 @@ reasonNumbers why = kindOf (why .rule) ∷ why .number ∷ []
 
 -- What holds of them. Proved in proofs/Given.antt: `reason-numbers : ReasonNumbers`.
 pub record ReasonNumbers : Type 0 where
-  -- "kind (0 crashed, 1 told, 2 zeros only, 3 quiet, 4 round t, 5 last round)"
+  -- 0 crashed, 1 told, 2 zeros only, 3 quiet, 4 round t, 5 last round
   pub kinds : map kindOf (NoRule ∷ Told ∷ ZerosOnly ∷ Quiet ∷ RoundT ∷ LastRound ∷ []) ≡ 0 ∷ 1 ∷ 2 ∷ 3 ∷ 4 ∷ 5 ∷ []
   -- the kind first: process 2 of case D, round t with three estimates
   pub in-order : reasonNumbers (record { rule = RoundT; number = 3 }) ≡ 4 ∷ 3 ∷ []

@@ -224,7 +224,7 @@ module _ (s : Schedule) (ok : Rules s) (i : ℕ) (il : i < s .n) where
               sender = sender;
               numbered = numbered;
               another = λ e. let z : after fcwfa s r sender .decided ≡ 0 = ap (λ (x : ℕ). after fcwfa s r x .decided) e ∙ u in omega arith;
-              decided-before = rw before (lasts s ok sender v r below late (omega arith) (g .2) same);
+              decided-before = subst (Decides fcwfa s sender v) (sym before) (lasts s ok sender v r below late (omega arith) (g .2) same);
               message = heard-is sender ∙ g .3 ∙ ap (λ (x : ℕ). 3 + x) same;
               lowest = λ j l.
                   ap isDecision (heard-is j ∙ sym (row-at j (omega arith))) ∙ none-before row j l;
