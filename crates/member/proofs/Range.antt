@@ -14,9 +14,8 @@ use Rattle.sets.specs.Sets.{names}
 use Rattle.sets.proofs.Bits.{of_others_below, of_others_not, of_others}
 use Rattle.member.specs.declared.Member.{Member}
 use Rattle.member.specs.Opening.{open_question}
-use Rattle.member.specs.State.{undecided, in_limits, placed, silent_others, ranged, in_range, stopped}
+use Rattle.member.specs.State.{undecided, in_limits, placed, silent_others, in_range, stopped}
 use Rattle.member.specs.Saying.{says}
-use Rattle.member.specs.Fawfc.{fawfc_in_range}
 
 -- n, t, own number and estimate (or vote) are within their limits.
 pub record Limits (limit n t id value : ℕ) : Type 0 where
@@ -58,15 +57,14 @@ module _ (limit n t id value : ℕ) where
         le-leb value 1 l.value_high,
       )
 
--- The round and the decided round of a member in range, under a protocol whose members can decide from round `soonest` on.
-pub data Place (soonest : ℕ) (m : Member) : Type 0 where
-  waiting : m.decided ≡ 0 → 1 ≤ m.round → m.round ≤ m.t + 1 → Place soonest m
-  settled : 1 ≤ m.decided → soonest ≤ m.decided → m.decided ≤ m.t + 1 → m.decided + 1 ≤ m.round → m.round ≤ m.decided + 2 → m.round ≤ m.t + 2
-      → Place soonest m
+-- The round and the decided round of a member in range.
+pub data Place (m : Member) : Type 0 where
+  waiting : m.decided ≡ 0 → 1 ≤ m.round → m.round ≤ m.t + 1 → Place m
+  settled : 2 ≤ m.decided → m.decided ≤ m.t + 1 → m.decided + 1 ≤ m.round → m.round ≤ m.decided + 2 → m.round ≤ m.t + 2 → Place m
 
-module _ (soonest : ℕ) (m : Member) where
+module _ (m : Member) where
   abbrev first : Bool
-  first = within soonest m.decided (m.t + 1)
+  first = within 2 m.decided (m.t + 1)
 
   abbrev second : Bool
   second = within (m.decided + 1) m.round (m.decided + 2)
@@ -74,34 +72,33 @@ module _ (soonest : ℕ) (m : Member) where
   abbrev third : Bool
   third = leb m.round (m.t + 2)
 
-  pub placed_place : placed soonest m ≡ true → Place soonest m
+  pub placed_place : placed m ≡ true → Place m
   unfolding placed
   placed_place e =
       elim (true_or_false (eqb m.decided 0)) [
         | inl u ↦ let w = rw u at e in waiting (eqb-true m.decided 0 u) (within_low 1 m.round (m.t + 1) w) (within_high 1 m.round (m.t + 1) w)
         | inr d ↦
-            let some = eqb-false m.decided 0 d in
             let w = rw d at e in
             let a = and_left first (second && third) w in
             let b = and_right first (second && third) w in
             let b1 = and_left second third b in
-            settled (omega arith) (within_low soonest m.decided (m.t + 1) a) (within_high soonest m.decided (m.t + 1) a)
+            settled (within_low 2 m.decided (m.t + 1) a) (within_high 2 m.decided (m.t + 1) a)
             (within_low (m.decided + 1) m.round (m.decided + 2) b1) (within_high (m.decided + 1) m.round (m.decided + 2) b1)
             (leb-true m.round (m.t + 2) (and_right second third b))
       ]
 
   -- the last test of a decided member that passed the others
-  pub placed_last : (m.decided ≡ 0 → ⊥) → first ≡ true → second ≡ true → third ≡ placed soonest m
+  pub placed_last : (m.decided ≡ 0 → ⊥) → first ≡ true → second ≡ true → third ≡ placed m
   unfolding placed
   placed_last d a b = rw (ne_eqb m.decided 0 d, a, b)
 
-  pub place_placed : Place soonest m → placed soonest m ≡ true
+  pub place_placed : Place m → placed m ≡ true
   unfolding placed
   place_placed (waiting u lo hi) = rw (eq-eqb m.decided 0 u, within_is 1 m.round (m.t + 1) lo hi)
-  place_placed (settled some d1 d2 r1 r2 r3) =
+  place_placed (settled d1 d2 r1 r2 r3) =
       rw (
         ne_eqb m.decided 0 (λ z. omega arith),
-        within_is soonest m.decided (m.t + 1) d1 d2,
+        within_is 2 m.decided (m.t + 1) d1 d2,
         within_is (m.decided + 1) m.round (m.decided + 2) r1 r2,
         le-leb m.round (m.t + 2) r3,
       )
@@ -120,10 +117,11 @@ module _ (m : Member) where
   unfolding silent_others
   others_silent o = of_others m.n (m.id - 1) m.silent o.below o.not_own
 
--- In range, but for the silent set.
-pub record Ranged (soonest limit : ℕ) (m : Member) : Type 0 where
+-- In range, whole.
+pub record Ranged (limit : ℕ) (m : Member) : Type 0 where
   pub bounds : Limits limit m.n m.t m.id m.estimate
-  pub place : Place soonest m
+  pub place : Place m
+  pub others : Others m
   pub round_low : 1 ≤ m.round
   pub round_high : m.round ≤ m.t + 2
   pub decided_high : m.decided ≤ m.t + 1
@@ -133,55 +131,30 @@ module _ (limit : ℕ) (m : Member) where
   unfolding in_limits
   limits_of e = open_limits limit m.n m.t m.id m.estimate (eqb-true _ 0 e)
 
-  module _ (soonest : ℕ) where
-    pub ranged_by : Limits limit m.n m.t m.id m.estimate → Place soonest m → Ranged soonest limit m
-    ranged_by l (waiting u a b) = record { bounds = l; place = waiting u a b; round_low = a; round_high = omega arith; decided_high = omega arith }
-    ranged_by l (settled some a b c d e) = record { bounds = l; place = settled some a b c d e; round_low = omega arith; round_high = e; decided_high = b }
+  pub ranged : Limits limit m.n m.t m.id m.estimate → Place m → Others m → Ranged limit m
+  ranged l (waiting u a b) o = record { bounds = l; place = waiting u a b; others = o; round_low = a; round_high = omega arith; decided_high = omega arith }
+  ranged l (settled a b c d e) o = record { bounds = l; place = settled a b c d e; others = o; round_low = omega arith; round_high = e; decided_high = b }
 
-    pub in_limits_placed : ranged soonest limit m ≡ true → Ranged soonest limit m
-    unfolding ranged
-    in_limits_placed e =
-        ranged_by (limits_of (and_left (in_limits limit m) (placed soonest m) e)) (placed_place soonest m (and_right (in_limits limit m) (placed soonest m) e))
-
-    placed_in_limits : Ranged soonest limit m → ranged soonest limit m ≡ true
-    unfolding ranged in_limits
-    placed_in_limits r = rw (limits_open limit m.n m.t m.id m.estimate r.bounds, place_placed soonest m r.place)
-
-    -- what it says is one of the codes
-    pub code_low : Ranged soonest limit m → says m ≤ 4
-    unfolding says
-    code_low e =
-        let value = e.bounds.value_high in
-        elim (true_or_false (stopped m)) [
-          | inl a ↦ rw a (omega arith)
-          | inr a ↦ rw a (elim (true_or_false (undecided m)) [ inl b ↦ rw b (omega arith) | inr b ↦ rw b (omega arith) ])
-        ]
-
-  -- whether the set of a member that is in range but for it is right, and the other way round
-  pub in_range_ranged : in_range limit m ≡ true → Ranged 2 limit m
+  pub in_range_ranged : in_range limit m ≡ true → Ranged limit m
   unfolding in_range
-  in_range_ranged e = in_limits_placed 2 (and_left (ranged 2 limit m) (silent_others m) e)
+  in_range_ranged e =
+      let l = and_left (in_limits limit m) _ e in
+      let p = and_right (in_limits limit m) _ e in
+      ranged (limits_of l) (placed_place m (and_left (placed m) (silent_others m) p)) (silent_others_lem m (and_right (placed m) (silent_others m) p))
 
-  pub in_range_others : in_range limit m ≡ true → Others m
-  unfolding in_range
-  in_range_others e = silent_others_lem m (and_right (ranged 2 limit m) (silent_others m) e)
+  pub ranged_in_range : Ranged limit m → in_range limit m ≡ true
+  unfolding in_range in_limits
+  ranged_in_range r = rw (limits_open limit m.n m.t m.id m.estimate r.bounds, place_placed m r.place, others_silent m r.others)
 
-  pub ranged_in_range : Ranged 2 limit m → Others m → in_range limit m ≡ true
-  unfolding in_range
-  ranged_in_range r o = rw (placed_in_limits 2 r, others_silent m o)
-
-  -- the same of FAWFC, whose members keep no silent set
-  pub fawfc_ranged : fawfc_in_range limit m ≡ true → Ranged 1 limit m
-  unfolding fawfc_in_range
-  fawfc_ranged e = in_limits_placed 1 (and_left (ranged 1 limit m) (eqb m.silent 0) e)
-
-  pub fawfc_silent : fawfc_in_range limit m ≡ true → m.silent ≡ 0
-  unfolding fawfc_in_range
-  fawfc_silent e = eqb-true m.silent 0 (and_right (ranged 1 limit m) (eqb m.silent 0) e)
-
-  pub ranged_fawfc : Ranged 1 limit m → m.silent ≡ 0 → fawfc_in_range limit m ≡ true
-  unfolding fawfc_in_range
-  ranged_fawfc r z = rw (placed_in_limits 1 r, eq-eqb m.silent 0 z)
+  -- what it says is one of the codes
+  pub code_low : in_range limit m ≡ true → says m ≤ 4
+  unfolding says
+  code_low e =
+      let value = (in_range_ranged e).bounds.value_high in
+      elim (true_or_false (stopped m)) [
+        | inl a ↦ rw a (omega arith)
+        | inr a ↦ rw a (elim (true_or_false (undecided m)) [ inl b ↦ rw b (omega arith) | inr b ↦ rw b (omega arith) ])
+      ]
 
 -- the last test of a member that is not in round t + 2
 pub stopped_last : (m : Member) → (m.round ≡ m.t + 2 → ⊥) → (m.decided ≡ 0 → ⊥) → eqb m.round (m.decided + 2) ≡ stopped m

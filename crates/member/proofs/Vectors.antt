@@ -6,7 +6,7 @@ use Rattle.laws.specs.Answer.{ask, answer}
 use Rattle.sets.specs.Sets.{names}
 use Rattle.member.specs.declared.Member.{Member}
 use Rattle.member.specs.Opening.{open_question}
-use Rattle.member.specs.State.{in_limits, placed, silent_others, ranged, in_range, stopped}
+use Rattle.member.specs.State.{in_limits, placed, silent_others, in_range, stopped}
 use Rattle.member.specs.Saying.{says}
 use Rattle.member.specs.Hearing.{codes, told, told_early, told_both, zeros_only, quiet, enough, rule_met, first_estimate, lowered, told_value, by_rule, becomes, sets_silent, silent_after}
 use Rattle.member.specs.declared.Reason.{Reason}
@@ -16,7 +16,7 @@ use Rattle.member.specs.Answers.{openAnswer, sayAnswer, hearAnswer, explainAnswe
 use Rattle.member.specs.Vectors.{MemberVectors, AnswerCases}
 
 pub member_vectors : MemberVectors
-unfolding within sum count least ask answer open_question in_limits placed names silent_others ranged in_range stopped says codes told told_early told_both zeros_only quiet enough rule_met first_estimate lowered told_value by_rule becomes sets_silent silent_after lowest_sender rule_heard rule_number say_question row_question hear_question openAnswer sayAnswer hearAnswer explainAnswer
+unfolding within sum count least ask answer open_question in_limits placed names silent_others in_range stopped says codes told told_early told_both zeros_only quiet enough rule_met first_estimate lowered told_value by_rule becomes sets_silent silent_after lowest_sender rule_heard rule_number say_question row_question hear_question openAnswer sayAnswer hearAnswer explainAnswer
 member_vectors = record { opened = refl; said = refl; heard = refl; explained = refl }
 
 pub answer_cases : (m : Member) (reason : Reason) → AnswerCases m reason

@@ -37,9 +37,9 @@ estimates k = k.zeros + k.ones
 unfoldable pub told : Tally → Bool
 told k = ltb 0 k.aborts || ltb 0 k.commits
 
--- "code 3 or 4 in rounds 1 and 2": with `last` for 2, in which round r is
-unfoldable pub told_early : ℕ → ℕ → Tally → Bool
-told_early last r k = leb r last && told k
+-- "code 3 or 4 in rounds 1 and 2"
+unfoldable pub told_early : ℕ → Tally → Bool
+told_early r k = leb r 2 && told k
 
 -- "both 3 and 4"
 unfoldable pub told_both : Tally → Bool
@@ -75,13 +75,9 @@ rule_met n t r k =
 abbrev pub moved : Member → ℕ → ℕ → Member
 moved m estimate decided = record { n = m.n; t = m.t; id = m.id; round = m.round + 1; estimate = estimate; decided = decided; silent = m.silent }
 
--- "fewer than n estimates, or any estimate 0"
-abbrev pub short_or_zero : ℕ → Tally → Bool
-short_or_zero n k = ltb (estimates k) n || ltb 0 k.zeros
-
 -- "r = 1: fewer than n estimates, or any estimate 0, makes its estimate 0"
 unfoldable pub first_estimate : ℕ → ℕ → Tally → ℕ
-first_estimate n estimate k = cond (short_or_zero n k) 0 estimate
+first_estimate n estimate k = cond (ltb (estimates k) n || ltb 0 k.zeros) 0 estimate
 
 -- "any estimate 0 makes its estimate 0"
 unfoldable pub lowered : ℕ → Tally → ℕ

@@ -5,6 +5,5 @@ pub mod Hearing
 pub mod Reasons
 pub mod Questions
 pub mod Answers
-pub mod Fawfc
 pub mod Promises
 pub mod Vectors

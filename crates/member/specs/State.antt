@@ -13,24 +13,19 @@ undecided m = eqb m.decided 0
 unfoldable pub in_limits : ℕ → Member → Bool
 in_limits limit m = eqb (open_question limit m.n m.t m.id m.estimate) 0
 
--- "undecided with a round from 1 to t + 1, or decided in d from 2 to t + 1 with a round of d + 1 or d + 2, at most t + 2", with `soonest` for 2, the first
--- round in which a member of the protocol can decide
-unfoldable pub placed : ℕ → Member → Bool
-placed soonest m =
+-- "undecided with a round from 1 to t + 1, or decided in d from 2 to t + 1 with a round of d + 1 or d + 2, at most t + 2"
+unfoldable pub placed : Member → Bool
+placed m =
     cond (undecided m) (within 1 m.round (m.t + 1))
-    (within soonest m.decided (m.t + 1) && (within (m.decided + 1) m.round (m.decided + 2) && leb m.round (m.t + 2)))
+    (within 2 m.decided (m.t + 1) && (within (m.decided + 1) m.round (m.decided + 2) && leb m.round (m.t + 2)))
 
 -- "In range now also means that it names only processes 1 to n and not the own number": the silent set
 unfoldable pub silent_others : Member → Bool
 silent_others m = names_others m.n (m.id - 1) m.silent
 
--- "In range means: ..", but for the silent set
-unfoldable pub ranged : ℕ → ℕ → Member → Bool
-ranged soonest limit m = in_limits limit m && placed soonest m
-
--- and whole
+-- "In range means: .."
 unfoldable pub in_range : ℕ → Member → Bool
-in_range limit m = ranged 2 limit m && silent_others m
+in_range limit m = in_limits limit m && (placed m && silent_others m)
 
 -- "Stopped means: round t + 2, or decided in d with round d + 2."
 unfoldable pub stopped : Member → Bool

@@ -1,23 +1,18 @@
-// One process of FCWFA (document 01, "One member") or of FAWFC (document 02, K5): what a machine of the cluster
-// runs.
+// One process of FCWFA (document 01, "One member"): what a machine of the cluster runs.
 //
-// `open` gives the state of a new member of either, and `say` and `say_fawfc` the code that it sends in the
-// round to come. `code` is that code of any state, in range or not; `is_stopped` tells whether a state has
-// stopped, and `size_question` asks about n and t alone. The state goes in and comes back by value. Each takes
-// anything, and none has a `requires`: `open`, `say` and `say_fawfc` answer what specs/Answers.antt and
-// specs/Fawfc.antt give, refusals too.
+// `open` gives the state of a new member and `say` the code that it sends in the round to come. `code` is
+// that code of any state, in range or not; `is_stopped` tells whether a state has stopped, and
+// `size_question` asks about n and t alone. The state goes in and comes back by value. Each takes anything,
+// and none has a `requires`: `open` and `say` answer what specs/Answers.antt gives, refusals too.
 //
-// What a row of codes makes of a member are `hear` and `hear_fawfc` of the crate `hearing`, and why it decides
-// by it `explain`. Their types stand here, since the definitions in specs/ name them.
+// What a row of codes makes of a member is `hear` of the crate `hearing`, and why it decides by it `explain`.
+// Their types stand here, since the definitions in specs/ name them.
 mod limits;
 mod state;
 
-ghost use Rattle.std.specs.Prelude.{◌≡◌, true, ◌≤◌};
-ghost use Rattle.laws.specs.Answer.{ask, answer};
+ghost use Rattle.std.specs.Prelude.{◌≡◌};
 ghost use Rattle.sets.specs.Largest.{largest};
-ghost use Rattle.member.specs.Saying.{says};
 ghost use Rattle.member.specs.Answers.{openedIs, openAnswer, saidIs, sayAnswer};
-ghost use Rattle.member.specs.Fawfc.{fawfc_say_answer};
 
 pub use limits::size_question;
 use sets::Set;
@@ -25,7 +20,7 @@ pub use state::{code, is_stopped};
 
 // The state of a member. `id` is its own number, `round` the round to play next, and `decided` the
 // round in which it decided, 0 while it has not. Once it has, `estimate` is the decision. `silent` is the
-// set behind the quiet-round rule: who sent no estimate in the last row that set it. It is empty in FAWFC.
+// set behind the quiet-round rule: who sent no estimate in the last row that set it.
 #[derive(Drop)]
 pub struct Member {
     pub n: u8,
@@ -35,13 +30,6 @@ pub struct Member {
     pub estimate: u8,
     pub decided: u8,
     pub silent: Set,
-}
-
-// The protocols, each with its own member: which one's is opened, speaks and hears.
-#[derive(Drop)]
-pub enum Variant {
-    Fcwfa,
-    Fawfc,
 }
 
 // How often each kind of code stands in a row: estimates 0 and 1, decided messages with 0 (aborts)
@@ -121,26 +109,11 @@ pub fn open(n: usize, t: usize, id: usize, vote: u8) -> Opened
     })
 }
 
-// What a member says of which is told whether it is in range.
-fn say_in_range(m: Member, in_range: bool) -> Said
-    requires low { in_range ≡ true → says m ≤ 4 }
-    ensures answered { saidIs result ≡ answer (ask in_range 11 0) (says m) tt }
-{
-    if !in_range {
-        return Said::Refused(11);
-    }
-    Said::Code(state::code(m) as u8)
-}
-
 pub fn say(m: Member) -> Said
     ensures answered { saidIs result ≡ sayAnswer largest m }
 {
-    say_in_range(m, state::is_in_range(m))
-}
-
-// The same of a member of FAWFC.
-pub fn say_fawfc(m: Member) -> Said
-    ensures answered { saidIs result ≡ fawfc_say_answer largest m }
-{
-    say_in_range(m, state::is_in_fawfc_range(m))
+    if !state::is_in_range(m) {
+        return Said::Refused(11);
+    }
+    Said::Code(state::code(m) as u8)
 }

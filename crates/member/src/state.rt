@@ -1,9 +1,8 @@
 // What a state says: whether it is in range, whether it has stopped, and the code that it sends.
 ghost use Rattle.std.specs.Prelude.{◌≡◌, ◌≤◌};
 ghost use Rattle.sets.specs.Largest.{largest};
-ghost use Rattle.member.specs.State.{in_limits, placed, silent_others, ranged, in_range, stopped};
+ghost use Rattle.member.specs.State.{in_limits, placed, silent_others, in_range, stopped};
 ghost use Rattle.member.specs.Saying.{says};
-ghost use Rattle.member.specs.Fawfc.{fawfc_in_range};
 
 use crate::Member;
 use crate::limits::open_question;
@@ -17,10 +16,9 @@ fn is_in_limits(m: Member) -> bool
     open_question(m.n as usize, m.t as usize, m.id as usize, m.estimate) == 0
 }
 
-// Whether the round and the decided round fit together, where `soonest` is the first round in which a member of
-// the protocol can decide.
-fn is_placed(m: Member, soonest: usize) -> bool
-    ensures tested { result ≡ placed soonest m }
+// Whether the round and the decided round fit together.
+fn is_placed(m: Member) -> bool
+    ensures tested { result ≡ placed m }
 {
     let t = m.t as usize;
     let round = m.round as usize;
@@ -28,7 +26,7 @@ fn is_placed(m: Member, soonest: usize) -> bool
     if decided == 0 {
         return is_within(1, round, t + 1);
     }
-    if !is_within(soonest, decided, t + 1) {
+    if !is_within(2, decided, t + 1) {
         return false;
     }
     if !is_within(decided + 1, round, decided + 2) {
@@ -45,33 +43,16 @@ fn is_silent_of_others(m: Member) -> bool
     is_of_others(m.silent, m.n as usize, (m.id - 1) as usize)
 }
 
-// Whether a state is in range but for the silent set.
-fn is_ranged(m: Member, soonest: usize) -> bool
-    ensures tested { result ≡ ranged soonest largest m }
+pub fn is_in_range(m: Member) -> bool
+    ensures tested { result ≡ in_range largest m }
 {
     if !is_in_limits(m) {
         return false;
     }
-    is_placed(m, soonest)
-}
-
-pub fn is_in_range(m: Member) -> bool
-    ensures tested { result ≡ in_range largest m }
-{
-    if !is_ranged(m, 2) {
+    if !is_placed(m) {
         return false;
     }
     is_silent_of_others(m)
-}
-
-// The same of a member of FAWFC, which can decide in round 1 and keeps no silent set.
-pub fn is_in_fawfc_range(m: Member) -> bool
-    ensures tested { result ≡ fawfc_in_range largest m }
-{
-    if !is_ranged(m, 1) {
-        return false;
-    }
-    m.silent == 0
 }
 
 // Whether a state, in range or not, is that of a stopped member.

@@ -24,10 +24,6 @@ module _ (P : Protocol) (s : Schedule) where
     pub completes_it : Completes s r i
     pub undecided : (after P s r i).decided ≡ 0
 
--- any two processes that decide, crashed ones included, decide the same
-abbrev pub Agreement : Protocol → Schedule → Type 0
-Agreement P s = (i k v x q r : ℕ) → Decides P s i v q → Decides P s k x r → v ≡ x
-
 -- round B of f crashes of t allowed: "B = f + 2 if f ≤ t − 2 and f + 1 otherwise". It is asked as f + 2 ≤ t, so that nothing is taken from a t below 2.
 unfoldable pub round_b : ℕ → ℕ → ℕ
 round_b f t = cond (leb (f + 2) t) (f + 2) (f + 1)
@@ -43,7 +39,8 @@ pub record SomeVotedZero (s : Schedule) : Type 0 where
   pub vote : vote_of s voter ≡ 0
 
 pub record Demand3 (s : Schedule) : Type 0 where
-  pub agreement : Agreement fcwfa s
+  -- any two processes that decide, crashed ones included, decide the same
+  pub agreement : (i k v x q r : ℕ) → Decides fcwfa s i v q → Decides fcwfa s k x r → v ≡ x
   -- if some process voted 0, every decision is 0, so none is 1
   pub abort_validity : SomeVotedZero s → (i v r : ℕ) → Decides fcwfa s i v r → v ≡ 0
   -- no process completes round B undecided

@@ -60,16 +60,16 @@ pub record Conditions (s : Schedule) : Type 0 where
 -- The reported f is the number of processes with crash rounds from 1 to t + 1. The reported decisions and rounds are those that the processes
 -- decide, and 2 and 0 for one that does not; so whatever demand 3 says of deciding holds of the report's two tables. And of a process that completes a
 -- round they give no decision by then exactly where it completes it undecided.
-pub record Reported (P : Protocol) (s : Schedule) : Type 0 where
-  pub crashes : (report P s).f ≡ crashed_by s (s.t + 1)
-  pub decisions_long : length (report P s).decisions ≡ s.n
-  pub rounds_long : length (report P s).rounds ≡ s.n
-  pub decided : (i v r : ℕ) → Decides P s i v r → (get_or (report P s).decisions i 2 ≡ v) × (given_round (report P s) i ≡ r) × (v ≤ 1)
-  pub decides : (i : ℕ) → i < s.n → given_round (report P s) i ≢ 0
-      → Decides P s i (get_or (report P s).decisions i 2) (given_round (report P s) i)
-  pub undecided : (i : ℕ) → i < s.n → given_round (report P s) i ≡ 0 → get_or (report P s).decisions i 2 ≡ 2
-  pub given_none : (r i : ℕ) → r ≤ s.t + 1 → CompletesUndecided P s r i → GivenNoneBy s (report P s) r i
-  pub none_given : (r i : ℕ) → r ≤ s.t + 1 → GivenNoneBy s (report P s) r i → CompletesUndecided P s r i
+pub record Reported (s : Schedule) : Type 0 where
+  pub crashes : (report fcwfa s).f ≡ crashed_by s (s.t + 1)
+  pub decisions_long : length (report fcwfa s).decisions ≡ s.n
+  pub rounds_long : length (report fcwfa s).rounds ≡ s.n
+  pub decided : (i v r : ℕ) → Decides fcwfa s i v r → (get_or (report fcwfa s).decisions i 2 ≡ v) × (given_round (report fcwfa s) i ≡ r) × (v ≤ 1)
+  pub decides : (i : ℕ) → i < s.n → given_round (report fcwfa s) i ≢ 0
+      → Decides fcwfa s i (get_or (report fcwfa s).decisions i 2) (given_round (report fcwfa s) i)
+  pub undecided : (i : ℕ) → i < s.n → given_round (report fcwfa s) i ≡ 0 → get_or (report fcwfa s).decisions i 2 ≡ 2
+  pub given_none : (r i : ℕ) → r ≤ s.t + 1 → CompletesUndecided fcwfa s r i → GivenNoneBy s (report fcwfa s) r i
+  pub none_given : (r i : ℕ) → r ≤ s.t + 1 → GivenNoneBy s (report fcwfa s) r i → CompletesUndecided fcwfa s r i
 
 -- In a run no call of a member is refused, for any limit that lets n pass: no opening, no saying, and no row that a member hears.
 pub record NoneRefused (P : Protocol) (limit : ℕ) (s : Schedule) : Type 0 where
@@ -83,17 +83,7 @@ pub record OwnAnswers (P : Protocol) (limit : ℕ) (s : Schedule) : Type 0 where
   pub states : (r : ℕ) → r ≤ s.t + 1 → states_after (by_calls limit P) s r ≡ states_after P s r
   pub sends : (r : ℕ) → r ≤ s.t → sent_after (by_calls limit P) s r ≡ sent_after P s r
 
--- What holds of the run of an accepted schedule under each of the protocols. Proved in proofs/Theorem.antt:
--- `accepted-facts : (which : Variant) (s : Schedule) (limit : ℕ) (answers : Bool) → question s limit answers ≡ 0 → RunFacts (protocol_of which) limit s`
-pub record RunFacts (P : Protocol) (limit : ℕ) (s : Schedule) : Type 0 where
-  pub reported : Reported P s
-  pub none_refused : NoneRefused P limit s
-  pub own_answers : OwnAnswers P limit s
-  -- A round in which nothing is sent is followed by nothing else, so a run may end there: n is at least 4, so a completing sender that says something
-  -- adds at least 3.
-  pub silence : (r : ℕ) → sent_after P s r ≡ 0 → SilentFrom P s r
-
--- All that is promised of the run of an accepted schedule under FCWFA. Proved in proofs/Theorem.antt:
+-- All that is promised of the run of an accepted schedule. Proved in proofs/Theorem.antt:
 -- `accepted_run : (s : Schedule) (limit : ℕ) (answers : Bool) → question s limit answers ≡ 0 → RunPromises limit s`
 pub record RunPromises (limit : ℕ) (s : Schedule) : Type 0 where
   pub demand_3 : Demand3 s
@@ -107,7 +97,12 @@ pub record RunPromises (limit : ℕ) (s : Schedule) : Type 0 where
   pub no_sooner : (r : ℕ) → r < settling_of s → LeftOpen s r
   -- who was silent: what the set of each member names after each row that sets it
   pub silent_sets : SilentSets s
-  pub facts : RunFacts fcwfa limit s
+  pub reported : Reported s
+  pub none_refused : NoneRefused fcwfa limit s
+  pub own_answers : OwnAnswers fcwfa limit s
+  -- A round in which nothing is sent is followed by nothing else, so a run may end there: n is at least 4, so a completing sender that says something
+  -- adds at least 3.
+  pub silence : (r : ℕ) → sent_after fcwfa s r ≡ 0 → SilentFrom fcwfa s r
   -- the outcome, which is answered without the whole run: what every process decides that decides, and the first round in which one does
   pub outcome : OutcomePromises s (outcome_decision fcwfa s) (outcome_round fcwfa s)
   -- why each process decided, or did not

@@ -9,5 +9,4 @@ pub mod Given
 pub mod Outcome
 pub mod Why
 pub mod Facts
-pub mod Fawfc
 pub mod Vectors

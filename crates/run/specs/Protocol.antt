@@ -1,16 +1,13 @@
 -- A protocol, as the run sees it: what one of its members does, and the questions of its calls. The run takes any protocol whose members have
--- the numbers of `Member` for their state; demand 3 is about FCWFA, and document 02's K5 promises others of FAWFC (Fawfc.antt).
+-- the numbers of `Member` for their state; demand 3 is about FCWFA.
 use Rattle.std.specs.Prelude.{ℕ, List, Bool}
 use Rattle.laws.specs.Answer.{place_after}
 use Rattle.member.specs.declared.Member.{Member}
-use Rattle.member.specs.declared.Variant.{Variant}
-use Rattle.member.specs.declared.Variant.TheVariants as Variant
 use Rattle.member.specs.Opening.{opening as Opening·opening, open_question as Opening·open_question}
 use Rattle.member.specs.State.{stopped as State·stopped}
 use Rattle.member.specs.Saying.{nothing, says as Saying·says}
 use Rattle.member.specs.Hearing.{hears as Hearing·hears}
 use Rattle.member.specs.Questions.{say_question as Questions·say_question, hear_question as Questions·hear_question}
-use Rattle.member.specs.Fawfc.{fawfc_hears, fawfc_say_question, fawfc_hear_question}
 
 pub record Protocol : Type 1 where
   -- the state of a member opened with n, t, its own number and its vote
@@ -36,23 +33,6 @@ fcwfa = record {
   say_question = Questions·say_question;
   hear_question = Questions·hear_question;
 }
-
--- FAWFC, whose members open, stop and speak as those of FCWFA do
-abbrev pub fawfc : Protocol
-fawfc = record {
-  opening = Opening·opening;
-  stopped = State·stopped;
-  says = Saying·says;
-  hears = fawfc_hears;
-  open_question = Opening·open_question;
-  say_question = fawfc_say_question;
-  hear_question = fawfc_hear_question;
-}
-
--- the protocol that a call is told to run
-abbrev pub protocol_of : Variant → Protocol
-protocol_of Variant.Fcwfa = fcwfa
-protocol_of Variant.Fawfc = fawfc
 
 -- what stands at a place that holds no member
 abbrev pub nobody : Member

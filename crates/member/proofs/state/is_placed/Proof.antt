@@ -42,9 +42,8 @@ is-within-requires-2 c κs = search rules
 returns-2 : tie.Need-returns-2
 unfolding placed
 returns-2 c =
-    let a = c.before.before.before.before.before.before.args in
-    let m = a.m in
-    let h : within a.soonest m.decided (m.t + 1) ≡ false = was_false c.before.is-within2.ensures c.if2.true in
+    let m = c.before.before.before.before.before.before.args.m in
+    let h : within 2 m.decided (m.t + 1) ≡ false = was_false c.before.is-within2.ensures c.if2.true in
     simp (ne_eqb m.decided 0 c.before.before.if1.false, h)
 
 add-is-within-3 : tie.Need-overflow-add-is-within-3
@@ -59,9 +58,8 @@ is-within-requires-3 c κs = search rules
 returns-3 : tie.Need-returns-3
 unfolding placed
 returns-3 c =
-    let a = c.before.before.before.before.before.before.before.before.args in
-    let m = a.m in
-    let g : within a.soonest m.decided (m.t + 1) ≡ true = was_true c.before.before.before.is-within2.ensures c.before.before.if2.false in
+    let m = c.before.before.before.before.before.before.before.before.args.m in
+    let g : within 2 m.decided (m.t + 1) ≡ true = was_true c.before.before.before.is-within2.ensures c.before.before.if2.false in
     let h : within (m.decided + 1) m.round (m.decided + 2) ≡ false = was_false c.before.is-within3.ensures c.if3.true in
     simp (ne_eqb m.decided 0 c.before.before.before.before.if1.false, g, h)
 
@@ -70,7 +68,7 @@ add-result c = search rules
 
 returns-4 : tie.Need-returns-4
 returns-4 c =
-    placed_last _ _ c.before.before.before.before.if1.false (was_true c.before.before.before.is-within2.ensures c.before.before.if2.false)
+    placed_last _ c.before.before.before.before.if1.false (was_true c.before.before.before.is-within2.ensures c.before.before.if2.false)
     (was_true c.before.is-within3.ensures c.if3.false)
 
 pub is-placed-spec : {M : Type 1} → statement M
