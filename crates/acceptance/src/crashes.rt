@@ -6,7 +6,7 @@ use laws::bit;
 
 // How many of the processes looked at crash, and how many were looked at: as they are looked at in order,
 // that is the number of the last one, and 0 for nobody.
-#[derive(Drop)]
+#[derive(Clone, Copy)]
 pub struct Counted {
     pub count: usize,
     pub looked: usize,

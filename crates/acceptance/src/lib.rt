@@ -6,6 +6,8 @@
 // about the values of one process, `are_of_size` about the lengths of three tables. `crash_count` counts
 // the crashes in a table of crash rounds, up to the one that is too many. Each takes anything and answers
 // what the definitions of the crate `schedule` give; none has a `requires`.
+#![tactic(auto)]
+
 mod crashes;
 mod process;
 mod tables;
@@ -24,7 +26,7 @@ use sets::Set;
 pub use tables::are_of_size;
 
 // Every question is answered by yes, or the number of the first question whose answer is no.
-#[derive(Drop)]
+#[derive(Clone, Copy)]
 pub enum Acceptance {
     Accepted,
     Refused(u8),

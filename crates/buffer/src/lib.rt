@@ -4,6 +4,8 @@
 // stood behind it stays, and what does not fit is left out. Each takes any buffer and any place, writes
 // what the definitions in specs/Buffer.antt give, and has no `requires`. `digit_count` tells before how
 // many digits `put_field` writes of a number.
+#![tactic(auto)]
+
 ghost use Rattle.std.specs.Prelude.{◌≡◌, ◌∷◌, []};
 ghost use Rattle.fields.specs.Decimal.{digit_count, field};
 ghost use Rattle.buffer.specs.Buffer.{Writes};

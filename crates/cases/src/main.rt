@@ -2,6 +2,8 @@
 // then, for each refused schedule, its place in the table and the number that the simulator answers, 0
 // for one that passes. The tables are those of the crates `marked` and `refusals`, with the results that
 // are due; an answer with other results would be followed by a line that says so.
+#![tactic(auto)]
+
 ghost use Rattle.std.specs.Prelude.{◌≡◌, true, ◌<◌, length};
 ghost use Rattle.marked.specs.Marked.{cases};
 ghost use Rattle.refusals.specs.Refused.{refusals};

@@ -3,6 +3,8 @@
 // round `crashes[i]`, or never if that is 0, and decided in round `rounds[i]`, or not at all if that is 0.
 // There are as many processes as decided rounds. Both tables may have any length: one past the end of the
 // crash rounds never crashes.
+#![tactic(auto)]
+
 ghost use Rattle.std.specs.Prelude.{◌≡◌, ◌<◌, max, length, get_or};
 ghost use Rattle.laws.specs.Below.{bit};
 ghost use Rattle.schedule.specs.Schedule.{ever_crashes};

@@ -5,6 +5,8 @@
 // `message_count` counts its messages. Each takes anything and answers what the definitions of the crate `run`
 // give; none has a `requires`. A cluster of more processes than a set has bits for is cut there (`fitting`), and
 // a table reads as 0 past its end.
+#![tactic(auto)]
+
 mod copies;
 mod rows;
 

@@ -1,5 +1,7 @@
 // Shows members exchanging rounds: case D of document 01, n = 4, t = 3, all votes 1, where process 1
 // crashes in round 1 and reaches process 2 alone. Then calls for each refusal number.
+#![tactic(auto)]
+
 use libc::STDOUT_FILENO;
 use member::{Heard, Member, Opened, Said};
 use sets::{Set, is_named};

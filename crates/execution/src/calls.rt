@@ -10,7 +10,7 @@ ghost use Rattle.execution.specs.Calls.{calls};
 use member::{Heard, Member, Opened};
 
 // A member between two rounds: its state, and the code that it says in the round to come.
-#[derive(Drop)]
+#[derive(Clone, Copy)]
 pub struct Turn {
     pub state: Member,
     pub code: u8,

@@ -5,6 +5,8 @@
 // until one in which some process decides (decision.rt). Each takes anything, and has no `requires`. That no call
 // of a member is refused in the run of an accepted schedule is proved. `all_rows` is a grid for the rows of a
 // round, without any yet.
+#![tactic(auto)]
+
 mod calls;
 mod decision;
 mod grid;
@@ -29,7 +31,7 @@ use sets::{Set, WIDTH};
 
 // What the rounds of a schedule leave: the number of the first question whose answer is no, or 0; the
 // members after these rounds, with nobody at the places that hold no member; and the messages sent in them.
-#[derive(Drop)]
+#[derive(Clone, Copy)]
 pub struct Ran {
     pub question: u8,
     pub members: [Member; WIDTH],
@@ -38,7 +40,7 @@ pub struct Ran {
 
 // What is left by rounds that end with the first in which some process decides: the number of the first question
 // whose answer is no, or 0; that round; and the lowest-numbered member that has decided after it.
-#[derive(Drop)]
+#[derive(Clone, Copy)]
 pub struct FirstDecision {
     pub question: u8,
     pub round: u8,

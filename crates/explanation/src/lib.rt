@@ -3,6 +3,8 @@
 // `explain` has the questions asked and the rounds played by `play_rounds` of the crate `execution`. For a
 // process that decided it plays the rounds before that one again, forms the rows of the round as a run does, and
 // asks the member which rule its row meets. It takes anything, and has no `requires`.
+#![tactic(auto)]
+
 mod own;
 
 ghost use Rattle.schedule.specs.Schedule.{schedule_of};

@@ -6,6 +6,8 @@
 // is as before. Each takes any numbers and bytes. A caller owes this alone: no pointer is NULL, also
 // where its length is 0, each is good for the number of entries that is said or given with it, and what
 // is written overlaps with nothing else that the call is lent.
+#![tactic(auto)]
+
 mod bytes;
 
 ghost use Rattle.std.specs.Prelude.{◌≡◌};

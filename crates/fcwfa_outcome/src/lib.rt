@@ -7,6 +7,8 @@
 //
 // It stands in a library of its own: where one library played rounds in two ways, the function that plays a round
 // would be built into neither, and both calls would be slower.
+#![tactic(auto)]
+
 ghost use Rattle.schedule.specs.Schedule.{schedule_of};
 ghost use Rattle.fcwfa_outcome.specs.Numbers.{ConcludesNumbers};
 

@@ -4,6 +4,8 @@
 // before. It takes any numbers and tables. A caller owes this alone: no pointer is NULL, also where its
 // length is 0, each is good for the number of entries that is said or given with it, and what is written
 // overlaps with nothing else that the call is lent.
+#![tactic(auto)]
+
 ghost use Rattle.std.specs.Prelude.{◌≡◌};
 ghost use Rattle.schedule.specs.Schedule.{schedule_of};
 ghost use Rattle.fcwfa_simulator.specs.Numbers.{counts_numbers, SimulatesNumbers, counted_numbers};

@@ -5,6 +5,8 @@
 // caller owes this alone: no pointer is NULL, also where its length is 0, each is good for the number of
 // entries that is said or given with it, and what is written overlaps with nothing else that the call is
 // lent.
+#![tactic(auto)]
+
 ghost use Rattle.schedule.specs.Schedule.{schedule_of};
 ghost use Rattle.fcwfa_texts.specs.Numbers.{WritesNumbers, ReadsNumbers};
 

@@ -5,6 +5,8 @@
 // reach of n letters 0 or 1. Each answers the value and how many bytes it takes, its end included,
 // or that no such field is there. `starts_with` compares a heading letter for letter. All four take
 // any bytes, answer what the definitions in specs/Fields.antt give, and have no `requires`.
+#![tactic(auto)]
+
 mod bytes;
 mod letters;
 
@@ -20,7 +22,7 @@ use sets::{Set, WIDTH};
 pub const SPACE: u8 = 32;
 
 // A number and how many bytes it takes, its end included; or no number of the form asked for.
-#[derive(Drop)]
+#[derive(Clone, Copy)]
 pub enum Field {
     Value(u8, usize),
     NoValue,
@@ -28,7 +30,7 @@ pub enum Field {
 
 // A reach as a number, bit j for the letter at place j, and how many bytes it takes, its end
 // included; or no reach.
-#[derive(Drop)]
+#[derive(Clone, Copy)]
 pub enum Reach {
     Names(Set, usize),
     NoReach,

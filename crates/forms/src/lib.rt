@@ -3,6 +3,8 @@
 // `read_head` asks the question of a text's length and those of lines 1 to 3, and answers n and t.
 // `read_process` reads the line of one process. Both take any bytes and any numbers, answer what the
 // definitions in specs/Answers.antt give, and have no `requires`.
+#![tactic(auto)]
+
 ghost use Rattle.std.specs.Prelude.{◌≡◌};
 ghost use Rattle.laws.specs.Answer.{accepted, and_next};
 ghost use Rattle.sets.specs.Largest.{largest};
@@ -20,28 +22,28 @@ pub const LONGEST: usize = 8192;
 
 // The sizes n and t of a head whose questions are all answered by yes, or the number of the first question
 // whose answer is no and its line.
-#[derive(Drop)]
+#[derive(Clone, Copy)]
 pub enum Head {
     Passed(usize, usize),
     Refused(u8, usize),
 }
 
 // A heading line is of its form, or it is not.
-#[derive(Drop)]
+#[derive(Clone, Copy)]
 pub enum HeadingLine {
     Heading,
     NoHeading,
 }
 
 // The values of line 2, or that it is not of its form.
-#[derive(Drop)]
+#[derive(Clone, Copy)]
 pub enum SizesLine {
     Sized(usize, usize),
     NoSizes,
 }
 
 // The vote, the crash round and the reach of a process's line, or that it is not of its form.
-#[derive(Drop)]
+#[derive(Clone, Copy)]
 pub enum ProcessLine {
     Process(u8, u8, Set),
     NoProcess,

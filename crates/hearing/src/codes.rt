@@ -9,7 +9,7 @@ use laws::bit;
 use member::Tally;
 
 // How often two codes, one above the other, stand in a row, and how often what is above both.
-#[derive(Drop)]
+#[derive(Clone, Copy)]
 struct Pair {
     lower: u8,
     upper: u8,

@@ -3,6 +3,8 @@
 // `hear` gives the state after the row, and `explain` the rule by which the row decides (document 02, K9). Each
 // takes anything and answers what the definitions of the crate `member` give, refusals too; none has a
 // `requires`.
+#![tactic(auto)]
+
 mod codes;
 mod reasons;
 mod rules;

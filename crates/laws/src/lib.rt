@@ -1,4 +1,6 @@
 // Tests on numbers that every layer asks. The laws of sums, counts and questions are in proofs/.
+#![tactic(auto)]
+
 ghost use Rattle.std.specs.Prelude.{◌≡◌};
 ghost use Rattle.laws.specs.Test.{within};
 ghost use Rattle.laws.specs.Below.{bit as Below·bit};

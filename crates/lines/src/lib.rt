@@ -5,6 +5,8 @@
 // `from` is the text from a place on, and `line` is line k without its LF. Each takes any bytes and any
 // number, answers what the definitions in specs/Lines.antt give, and has no `requires`; nothing is
 // copied. The laws that a reader of lines needs of them are in proofs/Parts.antt and Endings.antt.
+#![tactic(auto)]
+
 ghost use Rattle.std.specs.Prelude.{◌≡◌, ◌+◌, ◌-◌, ◌≤◌, length, drop};
 ghost use Rattle.lines.specs.Lines.{line_length, after_line, after_lines, start_of, line_of};
 

@@ -2,13 +2,15 @@
 //
 // `case_at` hands out entry k, counted from 0, or tells that there is none. The table is proved as a
 // whole: its results are those that the definitions give.
+#![tactic(auto)]
+
 ghost use Rattle.marked.specs.Marked.{MarkedTable, CaseAt};
 
 use sets::Set;
 
 // A marked schedule, with n = 4 and t = 3, and its results. Bit i - 1 of a reach is for process i. A
 // decision is 0, 1 or 2 (none), and a process without one has round 0.
-#[derive(Drop)]
+#[derive(Clone, Copy)]
 pub struct Case {
     pub votes: [u8; 4],
     pub crashes: [u8; 4],
@@ -23,7 +25,7 @@ pub struct Case {
 
 // What is handed out: a case that was found, or a blank one. It is a struct since an enum cannot hold
 // tables.
-#[derive(Drop)]
+#[derive(Clone, Copy)]
 pub struct CaseEntry {
     pub found: bool,
     pub case: Case,

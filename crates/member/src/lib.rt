@@ -7,6 +7,8 @@
 //
 // What a row of codes makes of a member is `hear` of the crate `hearing`, and why it decides by it `explain`.
 // Their types stand here, since the definitions in specs/ name them.
+#![tactic(auto)]
+
 mod limits;
 mod state;
 
@@ -21,7 +23,7 @@ pub use state::{code, is_stopped};
 // The state of a member. `id` is its own number, `round` the round to play next, and `decided` the
 // round in which it decided, 0 while it has not. Once it has, `estimate` is the decision. `silent` is the
 // set behind the quiet-round rule: who sent no estimate in the last row that set it.
-#[derive(Drop)]
+#[derive(Clone, Copy)]
 pub struct Member {
     pub n: u8,
     pub t: u8,
@@ -34,7 +36,7 @@ pub struct Member {
 
 // How often each kind of code stands in a row: estimates 0 and 1, decided messages with 0 (aborts)
 // and with 1 (commits), and what is no code.
-#[derive(Drop)]
+#[derive(Clone, Copy)]
 pub struct Tally {
     pub zeros: u8,
     pub ones: u8,
@@ -45,7 +47,7 @@ pub struct Tally {
 
 // The rule by which an undecided member decides: told by a decided message, zeros only in round 2, a
 // quiet round, enough estimates in round t, the last round, or none.
-#[derive(Drop)]
+#[derive(Clone, Copy)]
 pub enum Rule {
     Told,
     ZerosOnly,
@@ -56,21 +58,21 @@ pub enum Rule {
 }
 
 // The opened state, or the number of the first question whose answer is no.
-#[derive(Drop)]
+#[derive(Clone, Copy)]
 pub enum Opened {
     Started(Member),
     Refused(u8),
 }
 
 // The code that the member says, or the number.
-#[derive(Drop)]
+#[derive(Clone, Copy)]
 pub enum Said {
     Code(u8),
     Refused(u8),
 }
 
 // The state after the row, or the number and the state given.
-#[derive(Drop)]
+#[derive(Clone, Copy)]
 pub enum Heard {
     Moved(Member),
     Refused(u8, Member),
@@ -78,14 +80,14 @@ pub enum Heard {
 
 // Why a member decides: the rule, and the number that goes with it. Without a decision the rule is none, and
 // the number that of the crash round, where one is known.
-#[derive(Drop)]
+#[derive(Clone, Copy)]
 pub struct Reason {
     pub rule: Rule,
     pub number: u8,
 }
 
 // The reason, or the number of the first question whose answer is no.
-#[derive(Drop)]
+#[derive(Clone, Copy)]
 pub enum Explained {
     Because(Reason),
     Refused(u8),

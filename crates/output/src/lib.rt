@@ -3,6 +3,8 @@
 //
 // `printed` takes any bytes and answers the whole output: what is wanted of an accepted text, or the three
 // lines of a refusal. It has no `requires`.
+#![tactic(auto)]
+
 mod reasons;
 mod whole;
 
@@ -22,7 +24,7 @@ use sets::{zero_bytes, zero_sets};
 pub const OUTPUT: usize = LONGEST + 64;
 
 // The output's bytes with zeros after them, and how many they are.
-#[derive(Drop)]
+#[derive(Clone, Copy)]
 pub struct Output {
     pub bytes: [u8; OUTPUT],
     pub length: usize,
@@ -30,7 +32,7 @@ pub struct Output {
 
 // What is wanted of an accepted text: the program `bench` prints its report, `outcome` its outcome, and `why`
 // the reasons of its processes.
-#[derive(Drop)]
+#[derive(Clone, Copy)]
 pub enum Wanted {
     Report,
     Outcome,

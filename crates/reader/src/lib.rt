@@ -3,6 +3,8 @@
 // `read` takes any bytes and any three tables. It asks the text's questions line by line; where each is
 // answered by yes it fills the first n entries of the tables and answers n and t, and else it answers the
 // number and the line of the first no and leaves the tables as they were lent. It has no `requires`.
+#![tactic(auto)]
+
 mod parts;
 mod rest;
 mod tables;
@@ -15,14 +17,14 @@ use forms::{Head, read_head};
 use sets::{Set, WIDTH};
 
 // The sizes n and t of the text, or the number of the first question whose answer is no and its line.
-#[derive(Drop)]
+#[derive(Clone, Copy)]
 pub enum Reading {
     Read(usize, usize),
     Refused(u8, usize),
 }
 
 // Some questions were answered by yes, or the number of the first whose answer is no and its line.
-#[derive(Drop)]
+#[derive(Clone, Copy)]
 pub enum Asked {
     Passed,
     Refused(u8, usize),

@@ -2,6 +2,8 @@
 //
 // `refusal_at` hands out entry k, counted from 0, or tells that there is none. The table is proved as a
 // whole: its numbers are those that the definitions give.
+#![tactic(auto)]
+
 ghost use Rattle.std.specs.Prelude.{◌≡◌};
 ghost use Rattle.refusals.specs.Refused.{refusals, RefusalAt};
 
@@ -9,7 +11,7 @@ use sets::Set;
 
 // A schedule of n processes, in the first n places of its tables, and the number that it is refused
 // with, 0 if it passes.
-#[derive(Drop)]
+#[derive(Clone, Copy)]
 pub struct Refusal {
     pub n: usize,
     pub t: usize,
@@ -21,7 +23,7 @@ pub struct Refusal {
 
 // What is handed out: a refused schedule that was found, or a blank one. It is a struct since an enum
 // cannot hold tables.
-#[derive(Drop)]
+#[derive(Clone, Copy)]
 pub struct RefusalEntry {
     pub found: bool,
     pub refusal: Refusal,

@@ -5,6 +5,8 @@
 // `put_reasons_heading` the line of names above reasons, `put_reason` the line of one of them, and
 // `put_refusal` the three lines of a refusal. Each takes anything, writes what specs/Shown.antt and the
 // definitions of the crate `text` give, and has no `requires`. What is given is neither read nor run here.
+#![tactic(auto)]
+
 mod reasons;
 
 ghost use Rattle.std.specs.Prelude.{◌≡◌, List, true, ℕ, ◌+◌, ◌^◌, ◌≤◌, ◌<◌, length};

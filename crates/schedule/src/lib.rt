@@ -1,1 +1,2 @@
 // A schedule in tables: its definitions and rules are in specs/.
+#![tactic(auto)]

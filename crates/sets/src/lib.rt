@@ -4,6 +4,8 @@
 // width of a set and the largest n stand here and nowhere else; every table of a cluster has that many
 // entries. Each function takes anything and answers what the definitions in specs/ give; none has a
 // `requires`.
+#![tactic(auto)]
+
 ghost use Rattle.std.specs.Prelude.{◌≡◌, length, get_or, replicate};
 ghost use Rattle.std.specs.Int.Count.{ones as Count·ones};
 ghost use Rattle.sets.specs.Largest.{largest, fitting as Largest·fitting};

@@ -4,6 +4,8 @@
 // `simulate` has the questions asked and the rounds played by `play_rounds` of the crate `execution`, fills
 // the two answer tables and answers the counts. `conclude` has them asked and played by `play_to_decision`, and
 // answers a decision and its round. Each takes anything, and has no `requires`.
+#![tactic(auto)]
+
 mod tables;
 
 ghost use Rattle.schedule.specs.Schedule.{schedule_of};
@@ -13,7 +15,7 @@ use execution::{play_rounds, play_to_decision};
 use sets::{Set, WIDTH};
 
 // The counts of the report.
-#[derive(Drop)]
+#[derive(Clone, Copy)]
 pub struct Counts {
     pub f: usize,
     pub first: usize,
@@ -22,21 +24,21 @@ pub struct Counts {
 }
 
 // The counts of the run, or the number of the first question whose answer is no.
-#[derive(Drop)]
+#[derive(Clone, Copy)]
 pub enum Simulated {
     Completed(Counts),
     Refused(u8),
 }
 
 // The outcome of a schedule: what each process decides that decides, and the first round in which one does.
-#[derive(Drop)]
+#[derive(Clone, Copy)]
 pub struct Outcome {
     pub decision: u8,
     pub round: u8,
 }
 
 // The outcome, or the number of the first question whose answer is no.
-#[derive(Drop)]
+#[derive(Clone, Copy)]
 pub enum Concluded {
     Decided(Outcome),
     Refused(u8),

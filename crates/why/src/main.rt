@@ -7,6 +7,8 @@
 //
 // A program of this kit cannot choose its exit status. So where the output could not be written it says
 // so in one line on standard error.
+#![tactic(auto)]
+
 use forms::LONGEST;
 use libc::{STDERR_FILENO, STDIN_FILENO, STDOUT_FILENO};
 use output::Wanted;

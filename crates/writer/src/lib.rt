@@ -4,6 +4,8 @@
 // whether the buffer is long enough; where each is answered by yes it writes the text that the reader
 // takes and answers its length, and else it answers the number of the first no and leaves the buffer as it
 // was lent. It has no `requires`.
+#![tactic(auto)]
+
 mod lengths;
 mod processes;
 
@@ -22,7 +24,7 @@ use lines::LF;
 use sets::Set;
 
 // The length of the text, or the number of the first question whose answer is no.
-#[derive(Drop)]
+#[derive(Clone, Copy)]
 pub enum Writing {
     Written(usize),
     Refused(u8),
