@@ -31,7 +31,7 @@ def files():
 
 
 def is_lemmas(path):
-    return os.path.basename(path) not in ("Proof.antt", "Answers.antt", "Invariants.antt")
+    return "/specs/" in path or os.path.basename(path) not in ("Proof.antt", "Answers.antt", "Invariants.antt")
 
 
 def table():
@@ -52,6 +52,8 @@ def table():
                 record = indent
             elif record is not None and line.strip() and not line.strip().startswith("--") and indent <= record:
                 record = None
+            # what a place holds after a call, as a parameter
+            names |= set(re.findall(r"(?<![\w.])[a-z]+Now(?!\w)", line))
             m = DECLARED.match(line)
             if m and not line.strip().startswith("--"):
                 names.add(m.group(1))
@@ -128,7 +130,8 @@ def main(argv):
         return
     turned = table()
     if turned:
-        json.dump(turned, open(TABLE, "w"), indent=0, sort_keys=True)
+        known = json.load(open(TABLE)) if os.path.exists(TABLE) else {}
+        json.dump(known | turned, open(TABLE, "w"), indent=0, sort_keys=True)
     n = 0
     for p in files():
         text = open(p, encoding="utf-8").read()

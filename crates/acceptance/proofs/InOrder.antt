@@ -11,7 +11,7 @@ use Rattle.member.specs.Opening.{size_questions}
 use Rattle.member.proofs.Sizes.{sizes_first}
 use Rattle.schedule.specs.Schedule.{Schedule, crash_count}
 use Rattle.schedule.specs.Questions.{tables_long, process_question, question}
-use Rattle.acceptance.specs.Answers.{acceptAnswer}
+use Rattle.acceptance.specs.Answers.{accept_answer}
 
 module _ (s : Schedule) (limit : ℕ) (answers : Bool) (q : ℕ) (sizes : q ≡ size_questions limit s.n s.t 0) where
   -- the questions after 1 and 2
@@ -41,10 +41,10 @@ module _ (s : Schedule) (limit : ℕ) (answers : Bool) (q : ℕ) (sizes : q ≡ 
       past_processes is-0 = rw (asked, eq-eqb q 0 h, h3, ← processes, eq-eqb p 0 is-0)
 
 module _ (limit : ℕ) (s : Schedule) (q : ℕ) (asked : q ≡ question s limit true) where
-  pub refused_by : q ≢ 0 → refused q tt ≡ acceptAnswer limit s
-  unfolding acceptAnswer
+  pub refused_by : q ≢ 0 → refused q tt ≡ accept_answer limit s
+  unfolding accept_answer
   refused_by h = rw (← asked) (sym (answer_refused q tt tt h))
 
-  pub accepted_by : q ≡ 0 → accepted tt ≡ acceptAnswer limit s
-  unfolding acceptAnswer
+  pub accepted_by : q ≡ 0 → accepted tt ≡ accept_answer limit s
+  unfolding accept_answer
   accepted_by h = rw (← asked) (sym (answer_accepted q tt tt h))

@@ -8,10 +8,10 @@ use Rattle.acceptance.specs.declared.Acceptance.{Acceptance}
 use Rattle.acceptance.specs.declared.Acceptance.TheVariants.{Accepted, Refused}
 
 -- "The first "no" gives its number."
-abbrev pub acceptanceIs : Acceptance → Answer (Unit {0}) (Unit {0})
-acceptanceIs Accepted = accepted tt
-acceptanceIs (Refused number) = refused number tt
+abbrev pub acceptance_is : Acceptance → Answer (Unit {0}) (Unit {0})
+acceptance_is Accepted = accepted tt
+acceptance_is (Refused number) = refused number tt
 
 -- "Number 3 asks only about the tables that the call takes.": acceptance takes no answer tables
-unfoldable pub acceptAnswer : ℕ → Schedule → Answer (Unit {0}) (Unit {0})
-acceptAnswer limit s = answer (question s limit true) tt tt
+unfoldable pub accept_answer : ℕ → Schedule → Answer (Unit {0}) (Unit {0})
+accept_answer limit s = answer (question s limit true) tt tt

@@ -16,7 +16,7 @@ ghost use Rattle.std.specs.Prelude.{◌≡◌};
 ghost use Rattle.sets.specs.Largest.{largest};
 ghost use Rattle.schedule.specs.Schedule.{schedule_of};
 ghost use Rattle.schedule.specs.Questions.{answers_of, question as Questions·question};
-ghost use Rattle.acceptance.specs.Answers.{acceptanceIs, acceptAnswer};
+ghost use Rattle.acceptance.specs.Answers.{acceptance_is, accept_answer};
 
 use crate::tables::{are_answers_long, processes_question};
 pub use crashes::{Counted, crash_count};
@@ -68,7 +68,7 @@ pub fn question(
 
 // Acceptance alone: the call takes no answer tables.
 pub fn accepts(n: usize, t: usize, votes: &[u8], crashes: &[u8], reaches: &[Set]) -> Acceptance
-    ensures answered { acceptanceIs result ≡ acceptAnswer largest (schedule_of n t votes.now crashes.now reaches.now) }
+    ensures answered { acceptance_is result ≡ accept_answer largest (schedule_of n t votes.now crashes.now reaches.now) }
 {
     let number = question(n, t, votes, crashes, reaches, n, n);
     if number != 0 {

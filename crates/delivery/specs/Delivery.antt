@@ -9,7 +9,7 @@ use Rattle.run.specs.Run.{heard_from}
 -- What the round of n processes leaves in a grid, n up to the largest: the rows stand in it, with zeros after the codes of each, and the other rows of
 -- the grid are as they were.
 abbrev pub Delivers : ℕ → ℕ → (ℕ → ℕ) → List ℕ → List ℕ → List (List ℕ) → List (List ℕ) → Type 0
-Delivers n r code crashes reaches grid gridNow = Overwritten n (λ i. padded n (heard_from crashes reaches r code i)) grid gridNow
+Delivers n r code crashes reaches grid grid_now = Overwritten n (λ i. padded n (heard_from crashes reaches r code i)) grid grid_now
 
 -- A sender with this crash round, reach and code was looked at in round r: if it crashes in the round, its place j in the first n rows holds what each
 -- process hears of it, and else no row has changed. Only this crate's own functions cite it.

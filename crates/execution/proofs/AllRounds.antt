@@ -92,8 +92,8 @@ module _ (P : Protocol) (s : Schedule) where
       next_states f = over_so (over_again h.states f) next_same
 
       -- the round is played, with its number as the code has it
-      pub goes_on : {next : List Member} {gridNow : List (List ℕ)} {codesNow : List ℕ} → PlaysRound P (fitting s.n) (r + 1) members s.crashes s.reaches next
-          → Overwritten (fitting s.n) (code_said P next) codes codesNow → length gridNow ≡ length grid → Between gridNow codesNow next (r + 1)
+      pub goes_on : {next : List Member} {grid_now : List (List ℕ)} {codes_now : List ℕ} → PlaysRound P (fitting s.n) (r + 1) members s.crashes s.reaches next
+          → Overwritten (fitting s.n) (code_said P next) codes codes_now → length grid_now ≡ length grid → Between grid_now codes_now next (r + 1)
       goes_on f said kept =
           let room = h.room in
           record {

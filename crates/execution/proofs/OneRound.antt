@@ -31,14 +31,14 @@ front_padded : (n : ℕ) (f : ℕ → ℕ) → take n (padded n f) ≡ tabulate 
 front_padded n f = take_at (tabulate n f) (drop n (replicate largest 0)) n (length_tabulate n f)
 
 -- A round of n processes whose codes were delivered.
-module _ (P : Protocol) (n r : ℕ) (code : ℕ → ℕ) (crashes reaches : List ℕ) {grid gridNow : List (List ℕ)}
-    (sent : Delivers n r code crashes reaches grid gridNow) where
+module _ (P : Protocol) (n r : ℕ) (code : ℕ → ℕ) (crashes reaches : List ℕ) {grid grid_now : List (List ℕ)}
+    (sent : Delivers n r code crashes reaches grid grid_now) where
   -- the first n codes of a row in the grid are the row of its process
-  pub row_at : (i : ℕ) → i < n → take n (get_or gridNow i []) ≡ tabulate n (heard_from crashes reaches r code i)
+  pub row_at : (i : ℕ) → i < n → take n (get_or grid_now i []) ≡ tabulate n (heard_from crashes reaches r code i)
   row_at i l = ap (take n) (over_at sent i [] l) ∙ front_padded n (heard_from crashes reaches r code i)
 
   -- the rows of the grid are heard, and if the codes are what the members say, that is the round
-  pub plays_round : {members next : List Member} → ((j : ℕ) → j < n → code j ≡ code_said P members j) → HearsRows P n r members crashes gridNow next
+  pub plays_round : {members next : List Member} → ((j : ℕ) → j < n → code j ≡ code_said P members j) → HearsRows P n r members crashes grid_now next
       → PlaysRound P n r members crashes reaches next
   plays_round {members} said h =
       over_so h

@@ -61,8 +61,8 @@ module _ (s : Schedule) (ok : Rules s) where
       earlier : (k : ℕ) → suc k ≤ r → some_decided fcwfa s (suc k) ≡ false
       earlier k l = elim (split r (suc k)) [ inl same ↦ (let e : suc k ≡ r = omega arith in rw e nobody_yet) | inr sooner ↦ h.before k sooner ]
 
-      pub searches_on : s.n ≤ largest → OwnAnswers fcwfa largest s → {next : List Member} {placeNow : ℕ} → Stand (by_calls largest fcwfa) s (r + 1) next
-          → placeNow ≡ lowest_decided s.n next → Searched s placeNow (r + 1)
+      pub searches_on : s.n ≤ largest → OwnAnswers fcwfa largest s → {next : List Member} {place_now : ℕ} → Stand (by_calls largest fcwfa) s (r + 1) next
+          → place_now ≡ lowest_decided s.n next → Searched s place_now (r + 1)
       searches_on small own {next} stand e =
           let left = round_left in
           record {

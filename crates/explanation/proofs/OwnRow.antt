@@ -16,7 +16,7 @@ use Rattle.sets.specs.Largest.{largest, fitting}
 use Rattle.member.specs.declared.Member.{Member}
 use Rattle.member.specs.declared.Reason.{Reason}
 use Rattle.member.specs.Saying.{nothing}
-use Rattle.member.specs.Answers.{explainAnswer}
+use Rattle.member.specs.Answers.{explain_answer}
 use Rattle.schedule.specs.Schedule.{Schedule, crash_of, reach_of}
 use Rattle.schedule.specs.Questions.{question, Accepted}
 use Rattle.schedule.proofs.Accepted.{question_accepted}
@@ -66,12 +66,12 @@ module _ (s : Schedule) (passed : question s largest true ≡ 0) (i : ℕ) (il :
         ∙ place_given _ (fcwfa.says (after fcwfa s r j)) nothing (promises.none_refused.says r j (omega arith) l)
 
     -- the row that is delivered from what they say
-    module _ {codes : List ℕ} (said : Overwritten largest (code_said calls members) (replicate largest 0) codes) {grid gridNow : List (List ℕ)} {round : ℕ}
-        (in_round : round ≡ suc r) (sent : Delivers (fitting s.n) round (λ j. get_or codes j 0) s.crashes s.reaches grid gridNow) where
+    module _ {codes : List ℕ} (said : Overwritten largest (code_said calls members) (replicate largest 0) codes) {grid grid_now : List (List ℕ)} {round : ℕ}
+        (in_round : round ≡ suc r) (sent : Delivers (fitting s.n) round (λ j. get_or codes j 0) s.crashes s.reaches grid grid_now) where
       fits : fitting s.n ≡ s.n
       fits = let n_high = accepts.n_high in omega arith
 
-      own_row : take s.n (get_or gridNow i []) ≡ row_of fcwfa s (suc r) (states_after fcwfa s r) i
+      own_row : take s.n (get_or grid_now i []) ≡ row_of fcwfa s (suc r) (states_after fcwfa s r) i
       unfolding row_of code_heard
       own_row =
           let n_high = accepts.n_high in
@@ -79,13 +79,13 @@ module _ (s : Schedule) (passed : question s largest true ≡ 0) (i : ℕ) (il :
           ∙ tabulate_same s.n _ _ (λ j l. ap (delivered (suc r) i (crash_of s j) (reach_of s j)) (over_at said j 0 (omega arith) ∙ says_same j l))
 
       -- so the member explains it
-      pub own_explained : {why : Answer Reason (Unit {0})} {m : Member} {row : List ℕ} → m ≡ state_at members i → row ≡ take s.n (get_or gridNow i [])
-          → why ≡ explainAnswer largest m row → why ≡ accepted (why_of s i)
-      unfolding explainAnswer
+      pub own_explained : {why : Answer Reason (Unit {0})} {m : Member} {row : List ℕ} → m ≡ state_at members i → row ≡ take s.n (get_or grid_now i [])
+          → why ≡ explain_answer largest m row → why ≡ accepted (why_of s i)
+      unfolding explain_answer
       own_explained same at e =
           let h = hears_then in
           let not-refused = promises.none_refused.hears r i h.time h.completes h.runs in
           e
-          ∙ ap₂ (explainAnswer largest) (same ∙ member_at i il) (at ∙ own_row)
+          ∙ ap₂ (explain_answer largest) (same ∙ member_at i il) (at ∙ own_row)
           ∙ answer_accepted _ _ tt not-refused
           ∙ ap (λ (x : Reason). accepted x) (sym (why_is s accepts.rules i il r own))

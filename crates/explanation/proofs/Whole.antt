@@ -15,7 +15,7 @@ use Rattle.member.specs.declared.Reason.{Reason}
 use Rattle.member.specs.declared.Rule.TheVariants.{NoRule}
 use Rattle.member.specs.declared.Explained.{Explained}
 use Rattle.member.specs.declared.Explained.TheVariants.{Refused}
-use Rattle.member.specs.Answers.{explainedIs}
+use Rattle.member.specs.Answers.{explained_is}
 use Rattle.sets.specs.Largest.{largest}
 use Rattle.schedule.specs.Schedule.{Schedule, crash_of}
 use Rattle.schedule.specs.Questions.{answers_of, question}
@@ -27,7 +27,7 @@ use Rattle.run.proofs.Theorem.{accepted_run}
 use Rattle.execution.specs.declared.Ran.{Ran}
 use Rattle.execution.specs.Ran.{ran_of}
 use Rattle.execution.proofs.Whole.{final_at}
-use Rattle.explanation.specs.Answers.{whyQuestion, whyAnswer, Explains}
+use Rattle.explanation.specs.Answers.{why_question, why_answer, Explains}
 
 -- a call that takes no answer tables
 pub alone : (s : Schedule) (k : ℕ) {ran : Ran} → ran ≡ ran_of fcwfa largest s (answers_of s.n s.n s.n) k → ran ≡ ran_of fcwfa largest s true k
@@ -39,15 +39,15 @@ module _ (s : Schedule) (id : ℕ) {ran : Ran} (left : ran ≡ ran_of fcwfa larg
   asked = ap (λ (x : Ran). x.question) (alone s (min largest (s.t + 1)) left)
 
   -- a refusal with the number that the questions come to
-  refuses : (number : ℕ) → number ≡ whyQuestion largest s id → number ≢ 0 → Explains s id (Refused number)
-  unfolding whyAnswer
+  refuses : (number : ℕ) → number ≡ why_question largest s id → number ≢ 0 → Explains s id (Refused number)
+  unfolding why_answer
   refuses number e other = record {
     answered = ap (λ (k : ℕ). refused k tt) e ∙ sym (answer_refused _ _ tt (λ z. other (e ∙ z)));
     promises = record { kept = λ why h. absurd (not_accepted h) };
   }
 
   pub refused_schedule_lem : ran.question ≢ 0 → Explains s id (Refused ran.question)
-  unfolding whyQuestion and_then
+  unfolding why_question and_then
   refused_schedule_lem other =
       refuses _ (asked ∙ sym (cond_false (eqb (question s largest true) 0) _ _ (ne_eqb _ 0 (λ z. other (asked ∙ z))))) other
 
@@ -55,8 +55,8 @@ module _ (s : Schedule) (id : ℕ) {ran : Ran} (left : ran ≡ ran_of fcwfa larg
     pub passed : question s largest true ≡ 0
     passed = sym asked ∙ yes?
 
-    goes_on : whyQuestion largest s id ≡ ask (within 1 id s.n) 10 0
-    unfolding whyQuestion and_then
+    goes_on : why_question largest s id ≡ ask (within 1 id s.n) 10 0
+    unfolding why_question and_then
     goes_on = cond_true (eqb (question s largest true) 0) _ _ (eq-eqb _ 0 passed)
 
     pub no_process : within 1 id s.n ≡ false → Explains s id (Refused 10)
@@ -68,8 +68,8 @@ module _ (s : Schedule) (id : ℕ) {ran : Ran} (left : ran ≡ ran_of fcwfa larg
       pub own_round_lem : {d : ℕ} → d ≡ (state_at ran.members (id - 1)).decided → d ≡ own_round s (id - 1)
       own_round_lem e = e ∙ ap (λ m. m.decided) (final_at fcwfa s true passed (alone s (min largest (s.t + 1)) left) (id - 1) low)
 
-      pub explains : (r : Explained) → explainedIs r ≡ accepted (why_of s (id - 1)) → Explains s id r
-      unfolding whyAnswer ask
+      pub explains : (r : Explained) → explained_is r ≡ accepted (why_of s (id - 1)) → Explains s id r
+      unfolding why_answer ask
       explains r e = record {
         answered = e ∙ sym (answer_accepted _ _ tt (goes_on ∙ ap (λ b. ask b 10 0) inside));
         promises = record {

@@ -5,7 +5,7 @@ use Rattle.laws.specs.Answer.{ask, and_then, Answer, accepted, answer}
 use Rattle.sets.specs.Largest.{largest}
 use Rattle.member.specs.declared.Reason.{Reason}
 use Rattle.member.specs.declared.Explained.{Explained}
-use Rattle.member.specs.Answers.{explainedIs}
+use Rattle.member.specs.Answers.{explained_is}
 use Rattle.schedule.specs.Schedule.{Schedule}
 use Rattle.schedule.specs.Questions.{question}
 use Rattle.run.specs.Why.{why_of, WhyPromises}
@@ -13,18 +13,18 @@ use Rattle.run.specs.Why.{why_of, WhyPromises}
 -- A call with a schedule and a process number: `limit` is the largest n that is accepted.
 module _ (limit : ℕ) (s : Schedule) (id : ℕ) where
   -- the questions of a schedule without answer tables; "Process number from 1 to n? 10, after number 7"
-  unfoldable pub whyQuestion : ℕ
-  whyQuestion = and_then (question s limit true) (ask (within 1 id s.n) 10 0)
+  unfoldable pub why_question : ℕ
+  why_question = and_then (question s limit true) (ask (within 1 id s.n) 10 0)
 
   -- why the process decided, or the number of the first question whose answer is no
-  unfoldable pub whyAnswer : Answer Reason (Unit {0})
-  whyAnswer = answer whyQuestion (why_of s (id - 1)) tt
+  unfoldable pub why_answer : Answer Reason (Unit {0})
+  why_answer = answer why_question (why_of s (id - 1)) tt
 
 -- What is promised of a reason, of the answer: wherever it is one.
 pub record AnswerIsReason (s : Schedule) (id : ℕ) (r : Explained) : Type 0 where
-  pub kept : (why : Reason) → explainedIs r ≡ accepted why → WhyPromises s (id - 1) why
+  pub kept : (why : Reason) → explained_is r ≡ accepted why → WhyPromises s (id - 1) why
 
 -- What the call promises of its answer.
 pub record Explains (s : Schedule) (id : ℕ) (r : Explained) : Type 0 where
-  pub answered : explainedIs r ≡ whyAnswer largest s id
+  pub answered : explained_is r ≡ why_answer largest s id
   pub promises : AnswerIsReason s id r

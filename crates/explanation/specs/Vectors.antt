@@ -8,7 +8,7 @@ use Rattle.member.specs.declared.Rule.TheVariants.{RoundT, LastRound, NoRule}
 use Rattle.member.specs.declared.Reason.{Reason}
 use Rattle.schedule.specs.Four.{four, all_one, all_zero, four_voting1}
 use Rattle.schedule.specs.Schedule.{Schedule, schedule_of}
-use Rattle.explanation.specs.Answers.{whyAnswer}
+use Rattle.explanation.specs.Answers.{why_answer}
 
 -- a schedule and a process number, and what `explain` answers for them
 pub record ExplainCall : Type 0 where
@@ -48,4 +48,4 @@ explain_calls =
 
 -- each of these calls has its answer
 pub record ExplainVectors : Type 0 where
-  pub answered : map (λ c. whyAnswer largest c.schedule c.id) explain_calls ≡ map (λ c. c.answer) explain_calls
+  pub answered : map (λ c. why_answer largest c.schedule c.id) explain_calls ≡ map (λ c. c.answer) explain_calls

@@ -4,7 +4,7 @@ ghost use Rattle.std.specs.Prelude.{true, ◌≢◌, ◌≡◌, ◌<◌, replica
 ghost use Rattle.laws.specs.Answer.{accepted};
 ghost use Rattle.laws.specs.Filled.{Overwritten};
 ghost use Rattle.sets.specs.Largest.{largest};
-ghost use Rattle.member.specs.Answers.{explainedIs};
+ghost use Rattle.member.specs.Answers.{explained_is};
 ghost use Rattle.schedule.specs.Schedule.{schedule_of};
 ghost use Rattle.schedule.specs.Questions.{question};
 ghost use Rattle.run.specs.Run.{code_said};
@@ -54,7 +54,7 @@ pub fn by_own_row(
     requires accepted { question (schedule_of n t votes.now crashes.now reaches.now) largest true ≡ 0 }
     requires process { place < n }
     requires own { (round ≡ own_round (schedule_of n t votes.now crashes.now reaches.now) place) × (round ≢ 0) }
-    ensures explained { explainedIs result ≡ accepted (why_of (schedule_of n t votes.now crashes.now reaches.now) place) }
+    ensures explained { explained_is result ≡ accepted (why_of (schedule_of n t votes.now crashes.now reaches.now) place) }
 {
     let before = (round - 1) as usize;
     let ran = play_rounds(n, t, votes, crashes, reaches, n, n, before);

@@ -7,7 +7,7 @@ use Rattle.schedule.specs.Questions.{question}
 use Rattle.run.specs.Protocol.{fcwfa}
 use Rattle.run.specs.Outcome.{OutcomePromises}
 use Rattle.simulator.specs.declared.Outcome.{Outcome}
-use Rattle.simulator.specs.Answers.{outcomeOf}
+use Rattle.simulator.specs.Answers.{outcome_of}
 
 -- "answers that value and round": an outcome as two numbers
 abbrev pub outcome_numbers : Outcome → List ℕ
@@ -23,7 +23,7 @@ pub record NumbersAreOutcome (s : Schedule) (number : ℕ) (outcome : List ℕ) 
   pub kept : number ≡ 0 → OutcomePromises s (get_or outcome 0 0) (get_or outcome 1 0)
 
 -- What the call promises of a schedule and the place for the outcome that it is lent: of the number that it answers, and of what stands in it after it.
-pub record ConcludesNumbers (s : Schedule) (outcome : List ℕ) (number : ℕ) (outcomeNow : List ℕ) : Type 0 where
+pub record ConcludesNumbers (s : Schedule) (outcome : List ℕ) (number : ℕ) (outcome_now : List ℕ) : Type 0 where
   pub number_is : number ≡ question s largest true
-  pub outcome_given : outcomeNow ≡ place_after (question s largest true) (outcome_numbers (outcomeOf fcwfa s)) outcome
-  pub promises : NumbersAreOutcome s number outcomeNow
+  pub outcome_given : outcome_now ≡ place_after (question s largest true) (outcome_numbers (outcome_of fcwfa s)) outcome
+  pub promises : NumbersAreOutcome s number outcome_now

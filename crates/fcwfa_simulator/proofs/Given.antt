@@ -7,15 +7,15 @@ use Rattle.schedule.specs.Schedule.{Schedule}
 use Rattle.run.specs.Given.{GivenPromises}
 use Rattle.simulator.specs.declared.Counts.{Counts}
 use Rattle.simulator.specs.declared.Simulated.{Simulated}
-use Rattle.simulator.specs.Answers.{simulatedIs, givenBy, AnswersKeepPromises}
+use Rattle.simulator.specs.Answers.{simulated_is, given_by, AnswersKeepPromises}
 use Rattle.fcwfa_simulator.specs.Numbers.{counts_numbers, counts_in, NumbersKeepPromises}
 
 pub completed_keeps : (s : Schedule) {r : Simulated} {counts : Counts} {numbers decisions rounds : List ℕ} → AnswersKeepPromises s r decisions rounds
-    → simulatedIs r ≡ accepted counts → numbers ≡ counts_numbers counts → NumbersKeepPromises s 0 numbers decisions rounds
+    → simulated_is r ≡ accepted counts → numbers ≡ counts_numbers counts → NumbersKeepPromises s 0 numbers decisions rounds
 completed_keeps s {counts = counts} {decisions = decisions} {rounds = rounds} h e given =
     record {
       kept =
-          λ _. subst (λ (numbers : List ℕ). GivenPromises s (givenBy (counts_in numbers) decisions rounds)) (sym given) (h.kept counts e);
+          λ _. subst (λ (numbers : List ℕ). GivenPromises s (given_by (counts_in numbers) decisions rounds)) (sym given) (h.kept counts e);
     }
 
 pub refused_keeps : (s : Schedule) {number : ℕ} {numbers decisions rounds : List ℕ} → (number ≡ 0 → ⊥) → NumbersKeepPromises s number numbers decisions rounds

@@ -8,7 +8,7 @@ use Rattle.run.specs.Protocol.{fcwfa}
 use Rattle.run.specs.Report.{report}
 use Rattle.run.specs.Given.{GivenPromises}
 use Rattle.simulator.specs.declared.Counts.{Counts}
-use Rattle.simulator.specs.Answers.{countsOf, simulateQuestion, decisionsAfter, roundsAfter, givenBy}
+use Rattle.simulator.specs.Answers.{counts_of, simulate_question, decisions_after, rounds_after, given_by}
 
 -- the counts as four numbers, "f; last ..; first ..; messages", in the order of the report's heading: f, first, last, messages
 abbrev pub counts_numbers : Counts → List ℕ
@@ -28,16 +28,16 @@ pub record CountsNumbers : Type 0 where
 
 -- What is promised of what is given, of the numbers: wherever the call answers 0, with the counts and the two tables after the call.
 pub record NumbersKeepPromises (s : Schedule) (number : ℕ) (counts decisions rounds : List ℕ) : Type 0 where
-  pub kept : number ≡ 0 → GivenPromises s (givenBy (counts_in counts) decisions rounds)
+  pub kept : number ≡ 0 → GivenPromises s (given_by (counts_in counts) decisions rounds)
 
 -- What the call promises of a schedule, the two answer tables and the place for the counts that it is lent: of the number that it answers, and of what
 -- stands in them after it.
-pub record SimulatesNumbers (s : Schedule) (decisions rounds counts : List ℕ) (number : ℕ) (decisions_now rounds_now countsNow : List ℕ) : Type 0 where
-  pub number_is : number ≡ simulateQuestion largest s decisions rounds
-  pub decisions_given : decisions_now ≡ decisionsAfter fcwfa largest s decisions rounds
-  pub rounds_given : rounds_now ≡ roundsAfter fcwfa largest s decisions rounds
-  pub counts_given : countsNow ≡ place_after (simulateQuestion largest s decisions rounds) (counts_numbers (countsOf (report fcwfa s))) counts
-  pub promises : NumbersKeepPromises s number countsNow decisions_now rounds_now
+pub record SimulatesNumbers (s : Schedule) (decisions rounds counts : List ℕ) (number : ℕ) (decisions_now rounds_now counts_now : List ℕ) : Type 0 where
+  pub number_is : number ≡ simulate_question largest s decisions rounds
+  pub decisions_given : decisions_now ≡ decisions_after fcwfa largest s decisions rounds
+  pub rounds_given : rounds_now ≡ rounds_after fcwfa largest s decisions rounds
+  pub counts_given : counts_now ≡ place_after (simulate_question largest s decisions rounds) (counts_numbers (counts_of (report fcwfa s))) counts
+  pub promises : NumbersKeepPromises s number counts_now decisions_now rounds_now
 
 -- "answer, beside the count, the number of the last process it looked at": of t and a table of crash rounds
 abbrev pub counted_numbers : ℕ → List ℕ → List ℕ

@@ -9,9 +9,9 @@ use Rattle.laws.proofs.Answer.{answer_accepted, answer_refused, place_given}
 use Rattle.sets.specs.Largest.{largest}
 use Rattle.text.specs.Forms.{Sizes}
 use Rattle.text.specs.Reading.{longest}
-use Rattle.reader.specs.Answers.{readAnswer}
+use Rattle.reader.specs.Answers.{read_answer}
 use Rattle.reader.proofs.Texts.{read_numbered}
-use Rattle.writer.specs.Answers.{writeAnswer}
+use Rattle.writer.specs.Answers.{write_answer}
 use Rattle.fcwfa_texts.specs.Numbers.{number_of, read_numbers, Told}
 
 -- the answer that the three numbers of a reading tell
@@ -25,26 +25,26 @@ line_told (accepted sizes) lent now number some e h = absurd (some e)
 line_told (refused m k) lent now number some e h = λ i. refused (e i) (get_or (h i) 2 0)
 
 pub told : Told
-unfolding writeAnswer
+unfolding write_answer
 told = record {
-  was_written = λ s text used textNow usedNow h.
+  was_written = λ s text used text_now used_now h.
       let z = sym h.number_is in
       record { answered = ap accepted (h.used_given ∙ place_given _ _ _ z) ∙ sym (answer_accepted _ _ tt z); text_written = h.text_written };
-  not_written = λ s text used number textNow usedNow some h.
+  not_written = λ s text used number text_now used_now some h.
       record {
         answered = ap (λ (k : ℕ). refused k tt) h.number_is ∙ sym (answer_refused _ _ tt (λ z. some (h.number_is ∙ z)));
         text_written = h.text_written;
       };
   was_read = λ text votes crashes reaches lent v c m now h.
       record {
-        answered = sizes_told (readAnswer largest longest text votes crashes reaches) lent now (read_numbered largest longest text votes crashes reaches) h.number_is h.read_given;
+        answered = sizes_told (read_answer largest longest text votes crashes reaches) lent now (read_numbered largest longest text votes crashes reaches) h.number_is h.read_given;
         votes_read = h.votes_read;
         crashes_read = h.crashes_read;
         reaches_read = h.reaches_read;
       };
   not_read = λ text votes crashes reaches lent number v c m now some h.
       record {
-        answered = line_told (readAnswer largest longest text votes crashes reaches) lent now number some h.number_is h.read_given;
+        answered = line_told (read_answer largest longest text votes crashes reaches) lent now number some h.number_is h.read_given;
         votes_read = h.votes_read;
         crashes_read = h.crashes_read;
         reaches_read = h.reaches_read;

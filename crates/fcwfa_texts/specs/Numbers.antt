@@ -8,10 +8,10 @@ use Rattle.text.specs.Written.{text_of}
 use Rattle.text.specs.Reading.{longest}
 use Rattle.reader.specs.declared.Reading.TheVariants.{Read}
 use Rattle.reader.specs.declared.Reading.TheVariants as Reading
-use Rattle.reader.specs.Answers.{readAnswer, votesAfter, crashesAfter, reachesAfter, Reads}
+use Rattle.reader.specs.Answers.{read_answer, votes_after, crashes_after, reaches_after, Reads}
 use Rattle.writer.specs.declared.Writing.TheVariants.{Written}
 use Rattle.writer.specs.declared.Writing.TheVariants as Writing
-use Rattle.writer.specs.Answers.{writeQuestion, bufferAfter, WritesSchedule}
+use Rattle.writer.specs.Answers.{write_question, buffer_after, WritesSchedule}
 
 -- "The first "no" gives its number.", and 0 is given where there is none
 abbrev pub number_of : {A B : Type 0} → Answer A B → ℕ
@@ -33,30 +33,30 @@ pub record NumbersInOrder : Type 0 where
 
 -- What the writing call promises of a schedule, and of the buffer and the place for a length that it is lent: of the number that it answers, and of what
 -- stands in them after it.
-pub record WritesNumbers (s : Schedule) (text : List ℕ) (used number : ℕ) (textNow : List ℕ) (usedNow : ℕ) : Type 0 where
-  pub number_is : number ≡ writeQuestion largest s text
-  pub text_written : textNow ≡ bufferAfter largest s text
-  pub used_given : usedNow ≡ place_after (writeQuestion largest s text) (length (text_of s)) used
+pub record WritesNumbers (s : Schedule) (text : List ℕ) (used number : ℕ) (text_now : List ℕ) (used_now : ℕ) : Type 0 where
+  pub number_is : number ≡ write_question largest s text
+  pub text_written : text_now ≡ buffer_after largest s text
+  pub used_given : used_now ≡ place_after (write_question largest s text) (length (text_of s)) used
 
 -- What the reading call promises of a text, three tables and the place for three numbers: of the number that it answers, and of what stands in them after it.
-pub record ReadsNumbers (text votes crashes reaches read : List ℕ) (number : ℕ) (votes_now crashes_now reaches_now readNow : List ℕ) : Type 0 where
-  pub number_is : number ≡ number_of (readAnswer largest longest text votes crashes reaches)
-  pub votes_read : votes_now ≡ votesAfter largest longest text votes crashes reaches
-  pub crashes_read : crashes_now ≡ crashesAfter largest longest text votes crashes reaches
-  pub reaches_read : reaches_now ≡ reachesAfter largest longest text votes crashes reaches
-  pub read_given : readNow ≡ read_numbers (readAnswer largest longest text votes crashes reaches) read
+pub record ReadsNumbers (text votes crashes reaches read : List ℕ) (number : ℕ) (votes_now crashes_now reaches_now read_now : List ℕ) : Type 0 where
+  pub number_is : number ≡ number_of (read_answer largest longest text votes crashes reaches)
+  pub votes_read : votes_now ≡ votes_after largest longest text votes crashes reaches
+  pub crashes_read : crashes_now ≡ crashes_after largest longest text votes crashes reaches
+  pub reaches_read : reaches_now ≡ reaches_after largest longest text votes crashes reaches
+  pub read_given : read_now ≡ read_numbers (read_answer largest longest text votes crashes reaches) read
 
 -- What the numbers tell a caller: 0 that the text was written, or read, and any other number that the call was refused with it. So a call on numbers is a call
 -- of the writer or of the reader with that answer, and what `RoundTrips` of the crate `writer` says of those it says of these. Proved in proofs/Told.antt:
 -- `told : Told`.
 pub record Told : Type 0 where
-  pub was_written : (s : Schedule) (text : List ℕ) (used : ℕ) (textNow : List ℕ) (usedNow : ℕ)
-      → WritesNumbers s text used 0 textNow usedNow → WritesSchedule s text (Written usedNow) textNow
-  pub not_written : (s : Schedule) (text : List ℕ) (used number : ℕ) (textNow : List ℕ) (usedNow : ℕ) → (number ≡ 0 → ⊥)
-      → WritesNumbers s text used number textNow usedNow → WritesSchedule s text (Writing.Refused number) textNow
-  pub was_read : (text votes crashes reaches lent votes_now crashes_now reaches_now readNow : List ℕ)
-      → ReadsNumbers text votes crashes reaches lent 0 votes_now crashes_now reaches_now readNow
-      → Reads text votes crashes reaches (Read (get_or readNow 0 0) (get_or readNow 1 0)) votes_now crashes_now reaches_now
-  pub not_read : (text votes crashes reaches lent : List ℕ) (number : ℕ) (votes_now crashes_now reaches_now readNow : List ℕ) → (number ≡ 0 → ⊥)
-      → ReadsNumbers text votes crashes reaches lent number votes_now crashes_now reaches_now readNow
-      → Reads text votes crashes reaches (Reading.Refused number (get_or readNow 2 0)) votes_now crashes_now reaches_now
+  pub was_written : (s : Schedule) (text : List ℕ) (used : ℕ) (text_now : List ℕ) (used_now : ℕ)
+      → WritesNumbers s text used 0 text_now used_now → WritesSchedule s text (Written used_now) text_now
+  pub not_written : (s : Schedule) (text : List ℕ) (used number : ℕ) (text_now : List ℕ) (used_now : ℕ) → (number ≡ 0 → ⊥)
+      → WritesNumbers s text used number text_now used_now → WritesSchedule s text (Writing.Refused number) text_now
+  pub was_read : (text votes crashes reaches lent votes_now crashes_now reaches_now read_now : List ℕ)
+      → ReadsNumbers text votes crashes reaches lent 0 votes_now crashes_now reaches_now read_now
+      → Reads text votes crashes reaches (Read (get_or read_now 0 0) (get_or read_now 1 0)) votes_now crashes_now reaches_now
+  pub not_read : (text votes crashes reaches lent : List ℕ) (number : ℕ) (votes_now crashes_now reaches_now read_now : List ℕ) → (number ≡ 0 → ⊥)
+      → ReadsNumbers text votes crashes reaches lent number votes_now crashes_now reaches_now read_now
+      → Reads text votes crashes reaches (Reading.Refused number (get_or read_now 2 0)) votes_now crashes_now reaches_now

@@ -5,7 +5,7 @@ use mathlib.Core.List.{List}
 use Rattle.laws.specs.Answer.{accepted}
 use Rattle.member.specs.declared.Reason.{Reason}
 use Rattle.member.specs.declared.Explained.{Explained}
-use Rattle.member.specs.Answers.{explainedIs}
+use Rattle.member.specs.Answers.{explained_is}
 use Rattle.schedule.specs.Schedule.{Schedule}
 use Rattle.explanation.specs.Answers.{AnswerIsReason}
 use Rattle.fcwfa_why.specs.Numbers.{reason_numbers, ReasonNumbers, NumbersAreReason}
@@ -13,7 +13,7 @@ use Rattle.fcwfa_why.specs.Numbers.{reason_numbers, ReasonNumbers, NumbersAreRea
 pub reason_numbers_lem : ReasonNumbers
 reason_numbers_lem = record { kinds = refl; in_order = refl }
 
-pub because_keeps : (s : Schedule) (id : ℕ) {r : Explained} {why : Reason} {numbers : List ℕ} → AnswerIsReason s id r → explainedIs r ≡ accepted why
+pub because_keeps : (s : Schedule) (id : ℕ) {r : Explained} {why : Reason} {numbers : List ℕ} → AnswerIsReason s id r → explained_is r ≡ accepted why
     → numbers ≡ reason_numbers why → NumbersAreReason s id 0 numbers
 because_keeps s id {why = why} h e given = record { kept = λ _. record { reason = why; told = given; promises = h.kept why e } }
 

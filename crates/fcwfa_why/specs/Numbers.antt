@@ -7,7 +7,7 @@ use Rattle.member.specs.declared.Rule.TheVariants.{Told, ZerosOnly, Quiet, Round
 use Rattle.member.specs.declared.Reason.{Reason}
 use Rattle.schedule.specs.Schedule.{Schedule}
 use Rattle.run.specs.Why.{why_of, WhyPromises}
-use Rattle.explanation.specs.Answers.{whyQuestion}
+use Rattle.explanation.specs.Answers.{why_question}
 
 -- The kinds: "a decided message", "round 2 with zeros only, a quiet round", "round t" and "the last round" in document 02's order, from 1 on; 0 is that of
 -- "a process without a decision", of which no rule is named.
@@ -42,7 +42,7 @@ pub record NumbersAreReason (s : Schedule) (id number : ℕ) (numbers : List ℕ
 
 -- What the call promises of a schedule, a process number and the place for the reason that it is lent: of the number that it answers, and of what stands in
 -- the place after it.
-pub record ExplainsNumbers (s : Schedule) (id : ℕ) (why : List ℕ) (number : ℕ) (whyNow : List ℕ) : Type 0 where
-  pub number_is : number ≡ whyQuestion largest s id
-  pub why_given : whyNow ≡ place_after (whyQuestion largest s id) (reason_numbers (why_of s (id - 1))) why
-  pub promises : NumbersAreReason s id number whyNow
+pub record ExplainsNumbers (s : Schedule) (id : ℕ) (why : List ℕ) (number : ℕ) (why_now : List ℕ) : Type 0 where
+  pub number_is : number ≡ why_question largest s id
+  pub why_given : why_now ≡ place_after (why_question largest s id) (reason_numbers (why_of s (id - 1))) why
+  pub promises : NumbersAreReason s id number why_now

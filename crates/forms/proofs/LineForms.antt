@@ -19,7 +19,7 @@ use Rattle.fields.specs.declared.Reach.TheVariants.{Names, NoReach}
 use Rattle.fields.specs.Fields.{space, number_field, digit_field, reach_field, reach_up_to, field_is, reach_is}
 use Rattle.text.specs.Forms.{sizes_at, entry_at}
 use Rattle.text.specs.Reading.{is_found, value_or}
-use Rattle.forms.specs.Answers.{value_of, entryUpTo}
+use Rattle.forms.specs.Answers.{value_of, entry_up_to}
 
 -- What the value of a form tells of the form.
 module _ {A : Type 0} where
@@ -76,12 +76,12 @@ module _ {A : Type 0} where
 -- A process's line whose reach has at most `limit` letters. Where n is at most that it is no question, and a line that is not of its form stays so for
 -- any n.
 module _ (limit n i : ℕ) (text : List ℕ) where
-  pub entry_up_to : n ≤ limit → entryUpTo limit n i text ≡ entry_at n i text
-  unfolding entryUpTo
+  pub entry_up_to : n ≤ limit → entry_up_to limit n i text ≡ entry_at n i text
+  unfolding entry_up_to
   entry_up_to l = cond_true (leb n limit) (entry_at n i text) wrong (le-leb n limit l)
 
-  no_entry_lem : none ≡ value_of (entry_at n i text) → none ≡ value_of (entryUpTo limit n i text)
-  unfolding entryUpTo
+  no_entry_lem : none ≡ value_of (entry_at n i text) → none ≡ value_of (entry_up_to limit n i text)
+  unfolding entry_up_to
   no_entry_lem e = none_if (leb n limit) (entry_at n i text) e
 
 module _ (text : List ℕ) where
@@ -99,36 +99,36 @@ module _ (text : List ℕ) where
     both_sizes e = rw (first, e)
 
   module _ (limit n i : ℕ) where
-    pub no_id : number_field space text ≡ wrong → none ≡ value_of (entryUpTo limit n i text)
+    pub no_id : number_field space text ≡ wrong → none ≡ value_of (entry_up_to limit n i text)
     unfolding entry_at then_read
     no_id e = no_entry_lem limit n i text (rw e)
 
     module _ {id : ℕ} {after-id : List ℕ} (first : number_field space text ≡ found id after-id) where
-      pub other_id : id ≢ i + 1 → none ≡ value_of (entryUpTo limit n i text)
+      pub other_id : id ≢ i + 1 → none ≡ value_of (entry_up_to limit n i text)
       unfolding entry_at then_read
       other_id h = no_entry_lem limit n i text (rw (first, ne_eqb id (i + 1) h))
 
       module _ (own : id ≡ i + 1) where
-        pub no_vote : digit_field space after-id ≡ wrong → none ≡ value_of (entryUpTo limit n i text)
+        pub no_vote : digit_field space after-id ≡ wrong → none ≡ value_of (entry_up_to limit n i text)
         unfolding entry_at then_read
         no_vote e = no_entry_lem limit n i text (rw (first, eq-eqb id (i + 1) own, e))
 
         module _ {vote : ℕ} {after-vote : List ℕ} (second : digit_field space after-id ≡ found vote after-vote) where
-          pub no_crash : number_field space after-vote ≡ wrong → none ≡ value_of (entryUpTo limit n i text)
+          pub no_crash : number_field space after-vote ≡ wrong → none ≡ value_of (entry_up_to limit n i text)
           unfolding entry_at then_read
           no_crash e = no_entry_lem limit n i text (rw (first, eq-eqb id (i + 1) own, second, e))
 
           module _ {crash : ℕ} {after-crash : List ℕ} (third : number_field space after-vote ≡ found crash after-crash) where
             -- what is left is the reach
-            last_field : entryUpTo limit n i text ≡ then_read (reach_up_to lf after-crash limit n) (λ reach rest. found (record { vote = vote; crash = crash; reach = reach }) rest)
-            unfolding entryUpTo entry_at then_read reach_up_to
+            last_field : entry_up_to limit n i text ≡ then_read (reach_up_to lf after-crash limit n) (λ reach rest. found (record { vote = vote; crash = crash; reach = reach }) rest)
+            unfolding entry_up_to entry_at then_read reach_up_to
             last_field = rw (first, eq-eqb id (i + 1) own, second, third) (then_if (leb n limit) (reach_field lf after-crash n) (λ reach rest. found (record { vote = vote; crash = crash; reach = reach }) rest))
 
-            pub no_reach : reach_up_to lf after-crash limit n ≡ wrong → none ≡ value_of (entryUpTo limit n i text)
+            pub no_reach : reach_up_to lf after-crash limit n ≡ wrong → none ≡ value_of (entry_up_to limit n i text)
             unfolding then_read
             no_reach e = rw (last_field, e)
 
             pub whole_entry : {reach : ℕ} {end : List ℕ} → reach_up_to lf after-crash limit n ≡ found reach end
-                → some (record { vote = vote; crash = crash; reach = reach }) ≡ value_of (entryUpTo limit n i text)
+                → some (record { vote = vote; crash = crash; reach = reach }) ≡ value_of (entry_up_to limit n i text)
             unfolding then_read
             whole_entry e = rw (last_field, e)

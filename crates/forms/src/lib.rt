@@ -11,7 +11,7 @@ ghost use Rattle.sets.specs.Largest.{largest};
 ghost use Rattle.fields.specs.Fields.{starts_with};
 ghost use Rattle.text.specs.Forms.{sizes_at};
 ghost use Rattle.text.specs.Reading.{longest, sizes_in, head_questions};
-ghost use Rattle.forms.specs.Answers.{value_of, headIs, headingIs, sizesIs, processIs, entryUpTo};
+ghost use Rattle.forms.specs.Answers.{value_of, head_is, heading_is, sizes_is, process_is, entry_up_to};
 
 use fields::{Field, Reach, SPACE, starts_with};
 use lines::{LF, from, line_start};
@@ -51,7 +51,7 @@ pub enum ProcessLine {
 
 // A heading line, at the start of what is handed over, compared letter for letter.
 fn read_heading(text: &[u8], heading: &[u8]) -> HeadingLine
-    ensures read { headingIs result ≡ starts_with heading.now text.now }
+    ensures read { heading_is result ≡ starts_with heading.now text.now }
 {
     if !starts_with(text, heading) {
         return HeadingLine::NoHeading;
@@ -61,7 +61,7 @@ fn read_heading(text: &[u8], heading: &[u8]) -> HeadingLine
 
 // Line 2, at the start of what is handed over: n and t.
 fn read_sizes(text: &[u8]) -> SizesLine
-    ensures read { sizesIs result ≡ value_of (sizes_at text.now) }
+    ensures read { sizes_is result ≡ value_of (sizes_at text.now) }
 {
     let Field::Value(n, used) = fields::number_field(text, SPACE) else {
         return SizesLine::NoSizes;
@@ -75,7 +75,7 @@ fn read_sizes(text: &[u8]) -> SizesLine
 
 // The question of the text's length, and those of lines 1 to 3.
 pub fn read_head(text: &[u8]) -> Head
-    ensures asked { headIs result ≡ and_next (head_questions text.now largest longest) (accepted (sizes_in text.now)) }
+    ensures asked { head_is result ≡ and_next (head_questions text.now largest longest) (accepted (sizes_in text.now)) }
 {
     if LONGEST < text.len() {
         return Head::Refused(8, 0);
@@ -100,7 +100,7 @@ pub fn read_head(text: &[u8]) -> Head
 // The line of the process at place i, at the start of what is handed over: its own number i + 1, vote,
 // crash round and reach of n letters. One of more letters than a set has bits is none.
 pub fn read_process(text: &[u8], n: usize, i: usize) -> ProcessLine
-    ensures read { processIs result ≡ value_of (entryUpTo largest n i text.now) }
+    ensures read { process_is result ≡ value_of (entry_up_to largest n i text.now) }
 {
     let Field::Value(id, id_used) = fields::number_field(text, SPACE) else {
         return ProcessLine::NoProcess;

@@ -18,20 +18,20 @@ use Rattle.member.specs.State.{in_range, stopped}
 use Rattle.member.specs.Saying.{says}
 use Rattle.member.specs.Hearing.{tally_of, becomes, silent_after, with_silent, hears}
 use Rattle.member.specs.Questions.{say_question, row_question, hear_question}
-use Rattle.member.specs.Answers.{sayAnswer, hearAnswer}
+use Rattle.member.specs.Answers.{say_answer, hear_answer}
 
 -- A saying is refused only where the state is not in range; any other tells that it is, and the code.
 module _ (limit : ℕ) (m : Member) {x : ℕ} where
-  pub say_refused : refused x tt ≡ sayAnswer limit m → in_range limit m ≡ false
-  unfolding sayAnswer say_question ask answer
+  pub say_refused : refused x tt ≡ say_answer limit m → in_range limit m ≡ false
+  unfolding say_answer say_question ask answer
   say_refused e = elim (true_or_false (in_range limit m)) [ inl y ↦ absurd (not_accepted (rw y at e)) | inr n ↦ n ]
 
-  pub say_in_range : accepted x ≡ sayAnswer limit m → in_range limit m ≡ true
-  unfolding sayAnswer say_question ask answer
+  pub say_in_range : accepted x ≡ say_answer limit m → in_range limit m ≡ true
+  unfolding say_answer say_question ask answer
   say_in_range e = elim (true_or_false (in_range limit m)) [ inl y ↦ y | inr n ↦ absurd (not_accepted (sym (rw n at e))) ]
 
-  pub say_code : accepted x ≡ sayAnswer limit m → says m ≡ x
-  unfolding sayAnswer say_question ask answer
+  pub say_code : accepted x ≡ say_answer limit m → says m ≡ x
+  unfolding say_answer say_question ask answer
   say_code e = sym (ap (value_or x) (rw (say_in_range e) at e))
 
 -- a row that passes the questions about it holds nothing but codes
@@ -48,12 +48,12 @@ module _ (limit : ℕ) (m : Member) (row : List ℕ) (r : in_range limit m ≡ t
     question_is : hear_question limit m row ≡ q
     question_is = asks_row ∙ sym (rw counted at asked)
 
-    pub row_refused : q ≢ 0 → refused q m ≡ hearAnswer limit m row
-    unfolding hearAnswer
+    pub row_refused : q ≢ 0 → refused q m ≡ hear_answer limit m row
+    unfolding hear_answer
     row_refused h = rw question_is (sym (answer_refused q (hears m row) m h))
 
     pub row_accepted : q ≡ 0 → (next : Member) (set : ℕ) → next ≡ becomes m k → set ≡ silent_after m row → (x : Member) → x ≡ with_silent next set
-        → accepted x ≡ hearAnswer limit m row
-    unfolding hearAnswer
+        → accepted x ≡ hear_answer limit m row
+    unfolding hear_answer
     row_accepted h next set e f x g =
         rw question_is (ap accepted (g ∙ ap₂ with_silent (e ∙ ap (becomes m) counted) f) ∙ sym (answer_accepted q (hears m row) m h))

@@ -18,7 +18,7 @@ use Rattle.member.specs.State.{in_range}
 use Rattle.member.specs.Hearing.{tally_of}
 use Rattle.member.specs.Reasons.{lowest_sender, rule_heard, rule_number, reason_heard}
 use Rattle.member.specs.Questions.{hear_question}
-use Rattle.member.specs.Answers.{hearAnswer, explainAnswer}
+use Rattle.member.specs.Answers.{hear_answer, explain_answer}
 
 module _ (n : ℕ) (row : List ℕ) {rule : Rule} where
   pub told_number : rule ≡ Told → {place : ℕ} → place ≡ lowest_sender row → place + 1 ≡ rule_number rule n row
@@ -53,20 +53,20 @@ reason_is m row counted {rule} {number} e f =
 
 -- A row that hearing answers is explained, and one that it refuses is refused with the same number.
 module _ (limit : ℕ) (m : Member) (row : List ℕ) where
-  pub heard_question : {next : Member} → accepted next ≡ hearAnswer limit m row → hear_question limit m row ≡ 0
-  unfolding hearAnswer
+  pub heard_question : {next : Member} → accepted next ≡ hear_answer limit m row → hear_question limit m row ≡ 0
+  unfolding hear_answer
   heard_question e = (accepted_is _ _ m e).0
 
   pub heard_in_range : hear_question limit m row ≡ 0 → in_range limit m ≡ true
   unfolding hear_question
   heard_in_range e = (passed (in_range limit m) 11 _ (omega arith) e).0
 
-  pub explained : {next : Member} → accepted next ≡ hearAnswer limit m row → {why : Reason} → why ≡ reason_heard m row → accepted why ≡ explainAnswer limit m row
-  unfolding explainAnswer
+  pub explained : {next : Member} → accepted next ≡ hear_answer limit m row → {why : Reason} → why ≡ reason_heard m row → accepted why ≡ explain_answer limit m row
+  unfolding explain_answer
   explained e f = ap (λ (x : Reason). accepted x) f ∙ sym (answer_accepted _ (reason_heard m row) tt (heard_question e))
 
-  pub not_explained : {number : ℕ} {back : Member} → refused number back ≡ hearAnswer limit m row → refused number tt ≡ explainAnswer limit m row
-  unfolding hearAnswer explainAnswer
+  pub not_explained : {number : ℕ} {back : Member} → refused number back ≡ hear_answer limit m row → refused number tt ≡ explain_answer limit m row
+  unfolding hear_answer explain_answer
   not_explained e =
       let h = refused_is _ _ m e in
       ap (λ (k : ℕ). refused k tt) h.0 ∙ sym (answer_refused _ (reason_heard m row) tt h.1)

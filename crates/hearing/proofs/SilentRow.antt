@@ -36,7 +36,7 @@ module _ (row : List ℕ) (k : Tally) (counted : k ≡ tally_of row) where
       let aborts = ltb-false 0 k.aborts quiet.0 in
       let commits = ltb-false 0 k.commits quiet.1 in
       let no_other = ltb-false 4 (get_or row j 0) (count_zero (length row) (λ i. ltb 4 (get_or row i 0)) (sym (ap (λ (x : Tally). x.others) counted) ∙ all) j l) in
-      let no_Abort = eqb-false (get_or row j 0) 3 (count_zero (length row) (λ i. eqb (get_or row i 0) 3) (sym (ap (λ (x : Tally). x.aborts) counted) ∙ omega arith) j l) in
+      let no_abort = eqb-false (get_or row j 0) 3 (count_zero (length row) (λ i. eqb (get_or row i 0) 3) (sym (ap (λ (x : Tally). x.aborts) counted) ∙ omega arith) j l) in
       let no-commit = eqb-false (get_or row j 0) 4 (count_zero (length row) (λ i. eqb (get_or row i 0) 4) (sym (ap (λ (x : Tally). x.commits) counted) ∙ omega arith) j l) in
       omega arith
 

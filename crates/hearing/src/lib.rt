@@ -13,14 +13,14 @@ mod zeros;
 
 ghost use Rattle.std.specs.Prelude.{◌≡◌};
 ghost use Rattle.sets.specs.Largest.{largest};
-ghost use Rattle.member.specs.Answers.{heardIs, hearAnswer, explainedIs, explainAnswer};
+ghost use Rattle.member.specs.Answers.{heard_is, hear_answer, explained_is, explain_answer};
 
 use member::{Explained, Heard, Member, Said, is_stopped, say};
 
 // A saying is refused exactly where the state is not in range, which is the first question of hearing
 // too; and what is said must stand in the own place.
 pub fn hear(m: Member, row: &[u8]) -> Heard
-    ensures answered { heardIs result ≡ hearAnswer largest m row.now }
+    ensures answered { heard_is result ≡ hear_answer largest m row.now }
 {
     let Said::Code(says) = say(m) else {
         return Heard::Refused(11, m);
@@ -44,7 +44,7 @@ pub fn hear(m: Member, row: &[u8]) -> Heard
 
 // Why a member decides by a row. The row is refused exactly where hearing it is, with the same number.
 pub fn explain(m: Member, row: &[u8]) -> Explained
-    ensures answered { explainedIs result ≡ explainAnswer largest m row.now }
+    ensures answered { explained_is result ≡ explain_answer largest m row.now }
 {
     let answer = hear(m, row);
     match answer {

@@ -73,11 +73,11 @@ module _ {A : Type 0} where
   cond_false b x y e = rw e
 
 -- a callee's flag q, which is the test b, taken the other way round by `!`
-pub was_false : {q b : Bool} → q ≡ b → not q ≡ true → b ≡ false
-was_false {q} e h = sym e ∙ not-true q h
+pub was_false : {q b : Bool} → q ≡ b → q ≡ false → b ≡ false
+was_false e h = sym e ∙ h
 
-pub was_true : {q b : Bool} → q ≡ b → not q ≡ false → b ≡ true
-was_true {q} e h = sym e ∙ not-false q h
+pub was_true : {q b : Bool} → q ≡ b → q ≡ true → b ≡ true
+was_true e h = sym e ∙ h
 
 module _ (lo x hi : ℕ) where
   pub within_low : within lo x hi ≡ true → lo ≤ x

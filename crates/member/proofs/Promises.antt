@@ -24,7 +24,7 @@ use Rattle.member.specs.State.{in_range, stopped}
 use Rattle.member.specs.Saying.{says}
 use Rattle.member.specs.Hearing.{tally_of, is_estimate, estimates, told, zeros_only, quiet, enough, rule_met, moved, first_estimate, lowered, told_value, by_rule, becomes, sets_silent, with_silent, hears}
 use Rattle.member.specs.Questions.{row_question, hear_question}
-use Rattle.member.specs.Answers.{hearAnswer}
+use Rattle.member.specs.Answers.{hear_answer}
 use Rattle.member.specs.Reasons.{rule_heard}
 use Rattle.member.specs.Promises.{OpeningPromises, HearingPromises, ReasonPromises}
 use Rattle.member.proofs.Codes.{is_estimate_lem}
@@ -252,7 +252,7 @@ module _ (limit : ℕ) (m : Member) (row : List ℕ) where
   ]
 
   pub hearing_promises : HearingPromises limit m row
-  unfolding hearAnswer
+  unfolding hear_answer
   hearing_promises = record {
     refused_back = answer_refused (hear_question limit m row) (hears m row) m;
     accepted_on = answer_accepted (hear_question limit m row) (hears m row) m;

@@ -19,32 +19,32 @@ use Rattle.member.specs.Reasons.{reason_heard}
 use Rattle.member.specs.Questions.{say_question, hear_question}
 
 -- "A refused opening or saying returns its number only"
-abbrev pub openedIs : Opened → Answer Member (Unit {0})
-openedIs (opened.Started m) = accepted m
-openedIs (opened.Refused number) = refused number tt
+abbrev pub opened_is : Opened → Answer Member (Unit {0})
+opened_is (opened.Started m) = accepted m
+opened_is (opened.Refused number) = refused number tt
 
-unfoldable pub openAnswer : ℕ → ℕ → ℕ → ℕ → ℕ → Answer Member (Unit {0})
-openAnswer limit n t id vote = answer (open_question limit n t id vote) (opening n t id vote) tt
+unfoldable pub open_answer : ℕ → ℕ → ℕ → ℕ → ℕ → Answer Member (Unit {0})
+open_answer limit n t id vote = answer (open_question limit n t id vote) (opening n t id vote) tt
 
-abbrev pub saidIs : Said → Answer ℕ (Unit {0})
-saidIs (said.Code code) = accepted code
-saidIs (said.Refused number) = refused number tt
+abbrev pub said_is : Said → Answer ℕ (Unit {0})
+said_is (said.Code code) = accepted code
+said_is (said.Refused number) = refused number tt
 
-unfoldable pub sayAnswer : ℕ → Member → Answer ℕ (Unit {0})
-sayAnswer limit m = answer (say_question limit m) (says m) tt
+unfoldable pub say_answer : ℕ → Member → Answer ℕ (Unit {0})
+say_answer limit m = answer (say_question limit m) (says m) tt
 
 -- "a refused hearing returns its number and the state given"
-abbrev pub heardIs : Heard → Answer Member Member
-heardIs (heard.Moved m) = accepted m
-heardIs (heard.Refused number m) = refused number m
+abbrev pub heard_is : Heard → Answer Member Member
+heard_is (heard.Moved m) = accepted m
+heard_is (heard.Refused number m) = refused number m
 
-unfoldable pub hearAnswer : ℕ → Member → List ℕ → Answer Member Member
-hearAnswer limit m row = answer (hear_question limit m row) (hears m row) m
+unfoldable pub hear_answer : ℕ → Member → List ℕ → Answer Member Member
+hear_answer limit m row = answer (hear_question limit m row) (hears m row) m
 
-abbrev pub explainedIs : Explained → Answer Reason (Unit {0})
-explainedIs (explained.Because reason) = accepted reason
-explainedIs (explained.Refused number) = refused number tt
+abbrev pub explained_is : Explained → Answer Reason (Unit {0})
+explained_is (explained.Because reason) = accepted reason
+explained_is (explained.Refused number) = refused number tt
 
 -- why a member decides by a row: its questions are those of hearing the row
-unfoldable pub explainAnswer : ℕ → Member → List ℕ → Answer Reason (Unit {0})
-explainAnswer limit m row = answer (hear_question limit m row) (reason_heard m row) tt
+unfoldable pub explain_answer : ℕ → Member → List ℕ → Answer Reason (Unit {0})
+explain_answer limit m row = answer (hear_question limit m row) (reason_heard m row) tt

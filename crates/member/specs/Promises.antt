@@ -10,7 +10,7 @@ use Rattle.member.specs.Hearing.{tally_of, is_estimate, estimates, quiet, sets_s
 use Rattle.member.specs.declared.Rule.TheVariants.{NoRule}
 use Rattle.member.specs.Reasons.{rule_heard}
 use Rattle.member.specs.Questions.{hear_question}
-use Rattle.member.specs.Answers.{hearAnswer}
+use Rattle.member.specs.Answers.{hear_answer}
 
 -- of every opening, for any limit
 pub record OpeningPromises (limit n t id vote : ℕ) : Type 0 where
@@ -20,9 +20,9 @@ pub record OpeningPromises (limit n t id vote : ℕ) : Type 0 where
 -- of every state and every row, for any limit
 pub record HearingPromises (limit : ℕ) (m : Member) (row : List ℕ) : Type 0 where
   -- a refused hearing gives back its number and the state given
-  pub refused_back : hear_question limit m row ≢ 0 → hearAnswer limit m row ≡ refused (hear_question limit m row) m
+  pub refused_back : hear_question limit m row ≢ 0 → hear_answer limit m row ≡ refused (hear_question limit m row) m
   -- an accepted one gives the next state
-  pub accepted_on : hear_question limit m row ≡ 0 → hearAnswer limit m row ≡ accepted (hears m row)
+  pub accepted_on : hear_question limit m row ≡ 0 → hear_answer limit m row ≡ accepted (hears m row)
   -- in it the round has grown by 1, and n, t and own number are the same
   pub round_grows : (hears m row).round ≡ m.round + 1
   pub n_kept : (hears m row).n ≡ m.n

@@ -11,7 +11,7 @@ use Rattle.member.specs.declared.Rule.{Rule}
 use Rattle.member.specs.declared.Rule.TheVariants.{Told, ZerosOnly, Quiet, RoundT, LastRound, NoRule}
 use Rattle.member.specs.declared.Reason.{Reason}
 use Rattle.member.specs.declared.Explained.TheVariants as explained
-use Rattle.member.specs.Answers.{openedIs, openAnswer, saidIs, sayAnswer, heardIs, hearAnswer, explainedIs, explainAnswer}
+use Rattle.member.specs.Answers.{opened_is, open_answer, said_is, say_answer, heard_is, hear_answer, explained_is, explain_answer}
 
 -- "The state is n, t, own number, the round to play next, the estimate (0 or 1), and the decided round (0 while undecided).", and the silent set
 abbrev pub state : ℕ → ℕ → ℕ → ℕ → ℕ → ℕ → ℕ → Member
@@ -242,18 +242,18 @@ explanations =
 
 -- each of these calls has its answer
 pub record MemberVectors : Type 0 where
-  pub opened : map (λ o. openAnswer largest o.n o.t o.id o.vote) openings ≡ map (λ o. o.answer) openings
-  pub said : map (λ s. sayAnswer largest s.member) sayings ≡ map (λ s. s.answer) sayings
-  pub heard : map (λ h. hearAnswer largest h.member h.row) hearings ≡ map (λ h. h.answer) hearings
-  pub explained : map (λ e. explainAnswer largest e.member e.row) explanations ≡ map (λ e. e.answer) explanations
+  pub opened : map (λ o. open_answer largest o.n o.t o.id o.vote) openings ≡ map (λ o. o.answer) openings
+  pub said : map (λ s. say_answer largest s.member) sayings ≡ map (λ s. s.answer) sayings
+  pub heard : map (λ h. hear_answer largest h.member h.row) hearings ≡ map (λ h. h.answer) hearings
+  pub explained : map (λ e. explain_answer largest e.member e.row) explanations ≡ map (λ e. e.answer) explanations
 
 -- What each case of the answers' enums stands for: a refusal holds document 01's number, an acceptance the state, the code or the reason.
 pub record AnswerCases (m : Member) (reason : Reason) : Type 0 where
-  pub started : openedIs (opened.Started m) ≡ accepted m
-  pub not_opened : openedIs (opened.Refused 10) ≡ refused 10 tt
-  pub spoken : saidIs (said.Code 4) ≡ accepted 4
-  pub not_said : saidIs (said.Refused 11) ≡ refused 11 tt
-  pub moved : heardIs (heard.Moved m) ≡ accepted m
-  pub not_heard : heardIs (heard.Refused 15 m) ≡ refused 15 m
-  pub why : explainedIs (explained.Because reason) ≡ accepted reason
-  pub not_explained : explainedIs (explained.Refused 7) ≡ refused 7 tt
+  pub started : opened_is (opened.Started m) ≡ accepted m
+  pub not_opened : opened_is (opened.Refused 10) ≡ refused 10 tt
+  pub spoken : said_is (said.Code 4) ≡ accepted 4
+  pub not_said : said_is (said.Refused 11) ≡ refused 11 tt
+  pub moved : heard_is (heard.Moved m) ≡ accepted m
+  pub not_heard : heard_is (heard.Refused 15 m) ≡ refused 15 m
+  pub why : explained_is (explained.Because reason) ≡ accepted reason
+  pub not_explained : explained_is (explained.Refused 7) ≡ refused 7 tt

@@ -14,7 +14,7 @@ mod state;
 
 ghost use Rattle.std.specs.Prelude.{◌≡◌};
 ghost use Rattle.sets.specs.Largest.{largest};
-ghost use Rattle.member.specs.Answers.{openedIs, openAnswer, saidIs, sayAnswer};
+ghost use Rattle.member.specs.Answers.{opened_is, open_answer, said_is, say_answer};
 
 pub use limits::size_question;
 use sets::Set;
@@ -94,7 +94,7 @@ pub enum Explained {
 }
 
 pub fn open(n: usize, t: usize, id: usize, vote: u8) -> Opened
-    ensures answered { openedIs result ≡ openAnswer largest n t id vote }
+    ensures answered { opened_is result ≡ open_answer largest n t id vote }
 {
     let question = limits::open_question(n, t, id, vote);
     if question != 0 {
@@ -112,7 +112,7 @@ pub fn open(n: usize, t: usize, id: usize, vote: u8) -> Opened
 }
 
 pub fn say(m: Member) -> Said
-    ensures answered { saidIs result ≡ sayAnswer largest m }
+    ensures answered { said_is result ≡ say_answer largest m }
 {
     if !state::is_in_range(m) {
         return Said::Refused(11);

@@ -7,7 +7,7 @@ use lib.ListN.{length, drop, replicate, length-drop, length-replicate, get_or-re
 use lib.Seq.{get_or-drop, ext_get_or}
 use Rattle.buffer.specs.Buffer.{Writes}
 use Rattle.buffer.proofs.Written.{written_front}
-use Rattle.output.specs.Answers.{zeros, outputSize, output_is}
+use Rattle.output.specs.Answers.{zeros, output_size, output_is}
 
 -- what is left of a list of one thing
 rest_alike : {A : Type 0} (a : A) (size k : ℕ) → k ≤ size → drop k (replicate size a) ≡ replicate (size - k) a
@@ -20,12 +20,12 @@ rest_alike a size k l =
 pub zeros_long : (k : ℕ) → length (zeros k) ≡ k
 zeros_long k = let none : ℕ = 0 in length-replicate k none
 
-pub written_output : (blank buffer : List ℕ) (next : ℕ) (written : List ℕ) → blank ≡ zeros outputSize → Writes blank 0 buffer next written → length written ≤ outputSize
-    → (record { bytes = buffer; length = next } ≡ output_is written) × (next ≤ outputSize)
+pub written_output : (blank buffer : List ℕ) (next : ℕ) (written : List ℕ) → blank ≡ zeros output_size → Writes blank 0 buffer next written → length written ≤ output_size
+    → (record { bytes = buffer; length = next } ≡ output_is written) × (next ≤ output_size)
 written_output blank buffer next written blanks w fits =
-    let long : length blank ≡ outputSize = ap length blanks ∙ zeros_long outputSize in
+    let long : length blank ≡ output_size = ap length blanks ∙ zeros_long output_size in
     let front = written_front blank written (omega arith) in
-    let bytes : buffer ≡ written ++ zeros (outputSize - length written) =
-    w.bytes ∙ front.bytes ∙ ap (λ (l : List ℕ). written ++ l) (ap (drop (length written)) blanks ∙ rest_alike _ outputSize (length written) fits) in
+    let bytes : buffer ≡ written ++ zeros (output_size - length written) =
+    w.bytes ∙ front.bytes ∙ ap (λ (l : List ℕ). written ++ l) (ap (drop (length written)) blanks ∙ rest_alike _ output_size (length written) fits) in
     let place : next ≡ length written = w.place ∙ front.place in
     (ap₂ (λ (bytes : List ℕ) (length : ℕ). record { bytes = bytes; length = length }) bytes place, omega arith)

@@ -21,30 +21,30 @@ use Rattle.run.specs.Run.{final}
 use Rattle.run.specs.Report.{Report, round_of, decision_of, report}
 use Rattle.run.specs.Why.{why_of}
 use Rattle.run.proofs.Theorem.{accepted_run}
-use Rattle.explanation.specs.Answers.{whyQuestion, whyAnswer}
+use Rattle.explanation.specs.Answers.{why_question, why_answer}
 use Rattle.simulator.specs.declared.Counts.{Counts}
 use Rattle.simulator.specs.declared.Outcome.{Outcome}
-use Rattle.simulator.specs.Answers.{countsOf, givenBy, simulateQuestion, simulateAnswer, outcomeOf, outcomeAnswer}
+use Rattle.simulator.specs.Answers.{counts_of, given_by, simulate_question, simulate_answer, outcome_of, outcome_answer}
 use Rattle.text.specs.Output.{report_text, outcome_text, outcome_shown}
 use Rattle.report.specs.Shown.{are_decisions}
 use Rattle.report.proofs.Decisions as Decisions
 
-module _ (limit : ℕ) (s : Schedule) (decisions rounds : List ℕ) (passed : simulateQuestion limit s decisions rounds ≡ 0) where
-  pub counts_given : (P : Protocol) → simulateAnswer P limit s decisions rounds ≡ accepted (countsOf (report P s))
-  unfolding simulateAnswer
+module _ (limit : ℕ) (s : Schedule) (decisions rounds : List ℕ) (passed : simulate_question limit s decisions rounds ≡ 0) where
+  pub counts_given : (P : Protocol) → simulate_answer P limit s decisions rounds ≡ accepted (counts_of (report P s))
+  unfolding simulate_answer
   counts_given P = answer_accepted _ _ _ passed
 
-  pub table_given : (given lent : List ℕ) → place_after (simulateQuestion limit s decisions rounds) given lent ≡ given
+  pub table_given : (given lent : List ℕ) → place_after (simulate_question limit s decisions rounds) given lent ≡ given
   table_given given lent = place_given _ given lent passed
 
 -- an accepted schedule has an outcome
-pub outcome_given : (P : Protocol) (limit : ℕ) (s : Schedule) → question s limit true ≡ 0 → outcomeAnswer P limit s ≡ accepted (outcomeOf P s)
-unfolding outcomeAnswer
+pub outcome_given : (P : Protocol) (limit : ℕ) (s : Schedule) → question s limit true ≡ 0 → outcome_answer P limit s ≡ accepted (outcome_of P s)
+unfolding outcome_answer
 outcome_given P limit s passed = answer_accepted _ _ _ passed
 
 -- and each of its processes a reason
-pub reason_given : (limit : ℕ) (s : Schedule) (i : ℕ) → question s limit true ≡ 0 → i < s.n → whyAnswer limit s (i + 1) ≡ accepted (why_of s i)
-unfolding whyQuestion whyAnswer ask
+pub reason_given : (limit : ℕ) (s : Schedule) (i : ℕ) → question s limit true ≡ 0 → i < s.n → why_answer limit s (i + 1) ≡ accepted (why_of s i)
+unfolding why_question why_answer ask
 reason_given limit s i passed l =
     answer_accepted _ _ _ (and_then_passes _ _ passed (cond_true _ _ _ (within_is 1 (i + 1) s.n (omega arith) (omega arith))))
     ∙ ap (λ (j : ℕ). accepted (why_of s j)) (omega arith)
@@ -80,14 +80,14 @@ module _ (s : Schedule) (limit : ℕ) (answers : Bool) (passed : question s limi
 
 -- printing what is given prints the report
 pub print_given : (given : Report) (n t : ℕ) (counts : Counts) (decisions rounds : List ℕ) → length decisions ≡ n
-    → ◌≡◌ {A = Answer Counts (Unit {0})} (accepted counts) (accepted (countsOf given)) → decisions ≡ given.decisions → rounds ≡ given.rounds
-    → report_text (length decisions) t (givenBy counts decisions rounds) ≡ report_text n t given
+    → ◌≡◌ {A = Answer Counts (Unit {0})} (accepted counts) (accepted (counts_of given)) → decisions ≡ given.decisions → rounds ≡ given.rounds
+    → report_text (length decisions) t (given_by counts decisions rounds) ≡ report_text n t given
 print_given given n t counts decisions rounds long same ed er =
-    let c : counts ≡ countsOf given = ap (value_or counts) same in
-    ap₂ (λ (m : ℕ) (x : Counts). report_text m t (givenBy x decisions rounds)) long c
-    ∙ ap₂ (λ (d r : List ℕ). report_text n t (givenBy (countsOf given) d r)) ed er
+    let c : counts ≡ counts_of given = ap (value_or counts) same in
+    ap₂ (λ (m : ℕ) (x : Counts). report_text m t (given_by x decisions rounds)) long c
+    ∙ ap₂ (λ (d r : List ℕ). report_text n t (given_by (counts_of given) d r)) ed er
 
 -- printing an outcome that is given prints that of the schedule
-pub print_outcome : (P : Protocol) (s : Schedule) (outcome : Outcome) → ◌≡◌ {A = Answer Outcome (Unit {0})} (accepted outcome) (accepted (outcomeOf P s))
+pub print_outcome : (P : Protocol) (s : Schedule) (outcome : Outcome) → ◌≡◌ {A = Answer Outcome (Unit {0})} (accepted outcome) (accepted (outcome_of P s))
     → outcome_text outcome.decision outcome.round ≡ outcome_shown P s
 print_outcome P s outcome e = ap (λ (o : Outcome). outcome_text o.decision o.round) (ap (value_or outcome) e)

@@ -13,7 +13,7 @@ use Rattle.member.specs.declared.Reason.{Reason}
 use Rattle.run.specs.Report.{Report}
 use Rattle.text.specs.Reading.{longest}
 use Rattle.text.specs.Output.{counts_line, decision_line, decision_lines, report_text, outcome_text, rule_word, number_shown, reason_line, reasons_text, refusal_text}
-use Rattle.output.specs.Answers.{outputSize}
+use Rattle.output.specs.Answers.{output_size}
 use Rattle.text.proofs.Sizes.{field_short, each_short}
 
 line_short : (i decision round : ℕ) → i < largest → round < 2 ^ 64 → length (decision_line i decision round) ≤ 44
@@ -24,7 +24,7 @@ line_short i decision round hi hr =
     simp length-append (omega arith)
 
 pub report_short : (n t : ℕ) (given : Report) → n ≤ largest → t < 2 ^ 64 → given.f < 2 ^ 64 → given.first < 2 ^ 64 → given.last < 2 ^ 64 → given.messages < 2 ^ 64
-    → ((i : ℕ) → get_or given.rounds i 0 < 2 ^ 64) → length (report_text n t given) ≤ outputSize
+    → ((i : ℕ) → get_or given.rounds i 0 < 2 ^ 64) → length (report_text n t given) ≤ output_size
 unfolding report_text counts_line decision_lines
 report_short n t given hn ht hf h1 hl hm hr =
     let a = field_short 19 n space (omega arith) in
@@ -36,7 +36,7 @@ report_short n t given hn ht hf h1 hl hm hr =
     let lines = each_short n 44 (λ i. decision_line i (get_or given.decisions i 2) (get_or given.rounds i 0)) (λ i l. line_short i _ _ (omega arith) (hr i)) in
     simp length-append (omega arith)
 
-pub outcome_short : (decision round : ℕ) → round < 2 ^ 64 → length (outcome_text decision round) ≤ outputSize
+pub outcome_short : (decision round : ℕ) → round < 2 ^ 64 → length (outcome_text decision round) ≤ output_size
 unfolding outcome_text
 outcome_short decision round hr =
     let last = field_short 19 round lf (omega arith) in
@@ -68,13 +68,13 @@ reason_short i why hi hw =
     let last = number_short why.rule why.number hw in
     simp length-append (omega arith)
 
-pub reasons_short : (n : ℕ) (why : ℕ → Reason) → n ≤ largest → ((i : ℕ) → i < n → (why i).number < 256) → length (reasons_text n why) ≤ outputSize
+pub reasons_short : (n : ℕ) (why : ℕ → Reason) → n ≤ largest → ((i : ℕ) → i < n → (why i).number < 256) → length (reasons_text n why) ≤ output_size
 unfolding reasons_text
 reasons_short n why hn hw =
     let lines = each_short n 33 (λ i. reason_line (i + 1) (why i)) (λ i l. reason_short i (why i) (omega arith) (hw i l)) in
     simp length-append (omega arith)
 
-pub refusal_short : (number k : ℕ) (line : List ℕ) → number < 2 ^ 64 → k < 2 ^ 64 → length line ≤ longest → length (refusal_text number k line) ≤ outputSize
+pub refusal_short : (number k : ℕ) (line : List ℕ) → number < 2 ^ 64 → k < 2 ^ 64 → length line ≤ longest → length (refusal_text number k line) ≤ output_size
 unfolding refusal_text
 refusal_short number k line hn hk hl =
     let a = field_short 19 number space (omega arith) in

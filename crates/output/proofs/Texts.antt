@@ -17,16 +17,16 @@ use Rattle.schedule.proofs.Accepted.{question_accepted}
 use Rattle.text.specs.Reading.{longest, schedule_in, text_answer}
 use Rattle.text.specs.Output.{refusal_text, printed, output_of}
 use Rattle.text.proofs.Accepted as Text
-use Rattle.reader.specs.Answers.{readAnswer}
+use Rattle.reader.specs.Answers.{read_answer}
 use Rattle.reader.proofs.Texts.{text_accepted, its_n}
 use Rattle.output.specs.declared.Output.{Output}
 use Rattle.output.specs.declared.Wanted.{Wanted}
 use Rattle.output.specs.declared.Wanted.TheVariants as Wanted
 use Rattle.output.proofs.Buffer.{zeros_long}
-use Rattle.output.specs.Answers.{zeros, outputSize, output_is, shownOf, Prints, OutputKeepsPromises}
+use Rattle.output.specs.Answers.{zeros, output_size, output_is, shown_of, Prints, OutputKeepsPromises}
 
 -- n and t are answered, and the schedule s stands in the first n entries of the tables
-module _ (text votes crashes reaches : List ℕ) {n t : ℕ} (e : accepted (record { n = n; t = t }) ≡ readAnswer largest longest text votes crashes reaches) where
+module _ (text votes crashes reaches : List ℕ) {n t : ℕ} (e : accepted (record { n = n; t = t }) ≡ read_answer largest longest text votes crashes reaches) where
   abbrev read : text_answer text largest longest ≡ accepted (schedule_in text)
   read = text_accepted largest longest text votes crashes reaches e
 
@@ -57,22 +57,22 @@ module _ (text : List ℕ) {number k : ℕ} (e : text_answer text largest longes
   refusal_printed shown = sym (ap (printed shown text) e)
 
 -- The length counts bytes at the start of the buffer.
-pub counts : (written : List ℕ) {r : Output} → r ≡ output_is written → r.length ≤ outputSize → IsPrefixLen r.length r.bytes
+pub counts : (written : List ℕ) {r : Output} → r ≡ output_is written → r.length ≤ output_size → IsPrefixLen r.length r.bytes
 counts written {r} e fits =
     let count : r.length ≡ length written = ap (λ (x : Output). x.length) e in
-    let all = length-append written (zeros (outputSize - length written)) in
-    let behind = zeros_long (outputSize - length written) in
-    let long : length r.bytes ≡ outputSize = ap (λ (x : Output). length x.bytes) e ∙ (omega arith) in
+    let all = length-append written (zeros (output_size - length written)) in
+    let behind = zeros_long (output_size - length written) in
+    let long : length r.bytes ≡ output_size = ap (λ (x : Output). length x.bytes) e ∙ (omega arith) in
     (omega arith, sym (length-take-le r.length r.bytes (omega arith)))
 
 -- The promises of the bytes that are answered.
-printed_promises : (wanted : Wanted) (text : List ℕ) (s : Schedule) → text_answer text largest longest ≡ accepted s → Prints wanted s (output_of (shownOf wanted) text largest longest)
+printed_promises : (wanted : Wanted) (text : List ℕ) (s : Schedule) → text_answer text largest longest ≡ accepted s → Prints wanted s (output_of (shown_of wanted) text largest longest)
 printed_promises Wanted.Report text s h = Text.prints_promises text largest longest s h
 printed_promises Wanted.Outcome text s h = Text.prints_outcome text largest longest s h
 printed_promises Wanted.Reasons text s h = Text.prints_reasons text largest longest s h
 
-pub keeps_promises : (wanted : Wanted) (text : List ℕ) (r : Output) → r ≡ output_is (output_of (shownOf wanted) text largest longest) → OutputKeepsPromises wanted text r
+pub keeps_promises : (wanted : Wanted) (text : List ℕ) (r : Output) → r ≡ output_is (output_of (shown_of wanted) text largest longest) → OutputKeepsPromises wanted text r
 keeps_promises wanted text r e =
-    let written = output_of (shownOf wanted) text largest longest in
-    let bytes : take r.length r.bytes ≡ written = ap (λ (x : Output). take x.length x.bytes) e ∙ take-append_seam written (zeros (outputSize - length written)) in
+    let written = output_of (shown_of wanted) text largest longest in
+    let bytes : take r.length r.bytes ≡ written = ap (λ (x : Output). take x.length x.bytes) e ∙ take-append_seam written (zeros (output_size - length written)) in
     record { kept = λ s h. subst (Prints wanted s) (sym bytes) (printed_promises wanted text s h) }

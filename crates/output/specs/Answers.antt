@@ -16,18 +16,18 @@ abbrev pub zeros : ℕ → List ℕ
 zeros count = replicate count 0
 
 -- How many bytes an output has at most: the longest is the refusal of a line that is as long as a text may be, and the lines before it have less than 64.
-abbrev pub outputSize : ℕ
-outputSize = longest + 64
+abbrev pub output_size : ℕ
+output_size = longest + 64
 
 -- the output's bytes, with zeros after them, and how many they are
 abbrev pub output_is : List ℕ → Output
-output_is written = record { bytes = written ++ zeros (outputSize - length written); length = length written }
+output_is written = record { bytes = written ++ zeros (output_size - length written); length = length written }
 
 -- for each thing that may be wanted of an accepted schedule, what is printed
-abbrev pub shownOf : Wanted → Schedule → List ℕ
-shownOf Wanted.Report = report_shown fcwfa
-shownOf Wanted.Outcome = outcome_shown fcwfa
-shownOf Wanted.Reasons = reasons_shown
+abbrev pub shown_of : Wanted → Schedule → List ℕ
+shown_of Wanted.Report = report_shown fcwfa
+shown_of Wanted.Outcome = outcome_shown fcwfa
+shown_of Wanted.Reasons = reasons_shown
 
 -- and what is promised of it
 abbrev pub Prints : Wanted → Schedule → List ℕ → Type 0

@@ -13,7 +13,7 @@ ghost use Rattle.io.specs.Counts.{IsPrefixLen};
 ghost use Rattle.sets.specs.Largest.{largest};
 ghost use Rattle.text.specs.Reading.{longest};
 ghost use Rattle.text.specs.Output.{output_of};
-ghost use Rattle.output.specs.Answers.{output_is, shownOf, OutputKeepsPromises};
+ghost use Rattle.output.specs.Answers.{output_is, shown_of, OutputKeepsPromises};
 
 use forms::LONGEST;
 use reader::Reading;
@@ -41,7 +41,7 @@ pub enum Wanted {
 
 // The whole output for a text.
 pub fn printed(text: &[u8], wanted: Wanted) -> Output
-    ensures output { result ≡ output_is (output_of (shownOf wanted) text.now largest longest) }
+    ensures output { result ≡ output_is (output_of (shown_of wanted) text.now largest longest) }
     ensures fits { IsPrefixLen result.length result.bytes }
     ensures promises { OutputKeepsPromises wanted text.now result }
 {

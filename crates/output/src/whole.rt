@@ -7,7 +7,7 @@ ghost use Rattle.schedule.specs.Questions.{answers_of, question};
 ghost use Rattle.run.specs.Protocol.{fcwfa};
 ghost use Rattle.text.specs.Reading.{longest};
 ghost use Rattle.text.specs.Output.{report_shown, outcome_shown, reasons_shown, refusal_text};
-ghost use Rattle.output.specs.Answers.{zeros, outputSize, output_is, shownOf};
+ghost use Rattle.output.specs.Answers.{zeros, output_size, output_is, shown_of};
 
 use crate::reasons::put_reasons;
 use crate::{OUTPUT, Output, Wanted};
@@ -17,7 +17,7 @@ use simulator::{Concluded, Simulated};
 
 // A buffer for the output.
 fn blank_output() -> [u8; OUTPUT]
-    ensures zeros { result ≡ zeros outputSize }
+    ensures zeros { result ≡ zeros output_size }
 {
     [0u8; OUTPUT]
 }
@@ -34,7 +34,7 @@ fn completed(
 ) -> Output
     requires accepted { question (schedule_of n t votes.now crashes.now reaches.now) largest (answers_of n (length decisions.old) (length decided.old)) ≡ 0 }
     ensures output { result ≡ output_is (report_shown fcwfa (schedule_of n t votes.now crashes.now reaches.now)) }
-    ensures fits { result.length ≤ outputSize }
+    ensures fits { result.length ≤ output_size }
 {
     let mut bytes = blank_output();
     let answer = simulator::simulate(n, t, votes, crashes, reaches, decisions, decided);
@@ -62,7 +62,7 @@ fn report_of_tables(
     requires size { n ≤ largest }
     requires accepted { question (schedule_of n t (take n votes) (take n crashes) (take n reaches)) largest true ≡ 0 }
     ensures output { result ≡ output_is (report_shown fcwfa (schedule_of n t (take n votes) (take n crashes) (take n reaches))) }
-    ensures fits { result.length ≤ outputSize }
+    ensures fits { result.length ≤ output_size }
 {
     let mut decisions = zero_bytes();
     let mut decided = zero_bytes();
@@ -81,7 +81,7 @@ fn report_of_tables(
 fn concluded(n: usize, t: usize, votes: &[u8], crashes: &[u8], reaches: &[Set]) -> Output
     requires accepted { question (schedule_of n t votes.now crashes.now reaches.now) largest true ≡ 0 }
     ensures output { result ≡ output_is (outcome_shown fcwfa (schedule_of n t votes.now crashes.now reaches.now)) }
-    ensures fits { result.length ≤ outputSize }
+    ensures fits { result.length ≤ output_size }
 {
     let mut bytes = blank_output();
     let answer = simulator::conclude(n, t, votes, crashes, reaches);
@@ -102,7 +102,7 @@ fn concluded(n: usize, t: usize, votes: &[u8], crashes: &[u8], reaches: &[Set]) 
 fn explained(n: usize, t: usize, votes: &[u8], crashes: &[u8], reaches: &[Set]) -> Output
     requires accepted { question (schedule_of n t votes.now crashes.now reaches.now) largest true ≡ 0 }
     ensures output { result ≡ output_is (reasons_shown (schedule_of n t votes.now crashes.now reaches.now)) }
-    ensures fits { result.length ≤ outputSize }
+    ensures fits { result.length ≤ output_size }
 {
     let mut bytes = blank_output();
     let heading = put_reasons_heading(&mut bytes, 0);
@@ -124,8 +124,8 @@ pub fn of_tables(
 ) -> Output
     requires size { n ≤ largest }
     requires accepted { question (schedule_of n t (take n votes) (take n crashes) (take n reaches)) largest true ≡ 0 }
-    ensures output { result ≡ output_is (shownOf wanted (schedule_of n t (take n votes) (take n crashes) (take n reaches))) }
-    ensures fits { result.length ≤ outputSize }
+    ensures output { result ≡ output_is (shown_of wanted (schedule_of n t (take n votes) (take n crashes) (take n reaches))) }
+    ensures fits { result.length ≤ output_size }
 {
     match wanted {
         Wanted::Report => report_of_tables(n, t, votes, crashes, reaches),
@@ -138,7 +138,7 @@ pub fn of_tables(
 pub fn refused(text: &[u8], number: u8, k: usize) -> Output
     requires short { length (line_of k text.now) ≤ longest }
     ensures output { result ≡ output_is (refusal_text number k (line_of k text.now)) }
-    ensures fits { result.length ≤ outputSize }
+    ensures fits { result.length ≤ output_size }
 {
     let mut bytes = blank_output();
     let end = put_refusal(&mut bytes, 0, number, k, lines::line(text, k));

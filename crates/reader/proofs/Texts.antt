@@ -16,7 +16,7 @@ use Rattle.schedule.specs.Questions.{tables_of}
 use Rattle.text.specs.Forms.{Sizes}
 use Rattle.text.specs.Reading.{sizes_in, schedule_in, text_questions, text_answer}
 use Rattle.text.proofs.Accepted.{line_numbered, numbered}
-use Rattle.reader.specs.Answers.{givenOr, filled, readQuestions, readAnswer, tableAfter, votesAfter, crashesAfter, reachesAfter}
+use Rattle.reader.specs.Answers.{given_or, filled, read_questions, read_answer, table_after, votes_after, crashes_after, reaches_after}
 use Rattle.reader.proofs.Whole.{asked, asked_text, read_accepted}
 
 same_schedule : {n t n' t' : ℕ} {v c m v' c' m' : List ℕ} → n ≡ n' → t ≡ t' → v ≡ v' → c ≡ c' → m ≡ m' → schedule_of n t v c m ≡ schedule_of n' t' v' c' m'
@@ -27,22 +27,22 @@ module _ (limit most : ℕ) (text votes crashes reaches : List ℕ) where
   questions = asked text limit most votes crashes reaches
 
   -- n and t are answered
-  module _ {n t : ℕ} (e : accepted (record { n = n; t = t }) ≡ readAnswer limit most text votes crashes reaches) where
+  module _ {n t : ℕ} (e : accepted (record { n = n; t = t }) ≡ read_answer limit most text votes crashes reaches) where
     both : (questions ≡ accepted tt) × ◌≡◌ {A = Answer Sizes ℕ} (accepted (sizes_in text)) (accepted (record { n = n; t = t }))
-    unfolding readAnswer
+    unfolding read_answer
     both = and_next_accepted questions (accepted (sizes_in text)) (record { n = n; t = t }) (sym e)
 
     sizes : sizes_in text ≡ record { n = n; t = t }
     sizes = ap (value_or (record { n = 0; t = 0 })) both.1
 
     pub text_accepted : text_answer text limit most ≡ accepted (schedule_in text)
-    unfolding readQuestions text_answer
+    unfolding read_questions text_answer
     text_accepted = and_next_passes _ _ (and_next_accepted _ (text_questions text limit most) tt both.0).1
 
     -- a table of the schedule stands at the front of the table after the call
-    front : (read lent after : List ℕ) → length read ≡ n → after ≡ tableAfter limit most text votes crashes reaches read lent → take n after ≡ read
-    unfolding tableAfter
-    front read lent after long h = ap (take n) (h ∙ ap (λ (q : Answer (Unit {0}) ℕ). givenOr q (filled read lent) lent) both.0) ∙ take_at read _ n long
+    front : (read lent after : List ℕ) → length read ≡ n → after ≡ table_after limit most text votes crashes reaches read lent → take n after ≡ read
+    unfolding table_after
+    front read lent after long h = ap (take n) (h ∙ ap (λ (q : Answer (Unit {0}) ℕ). given_or q (filled read lent) lent) both.0) ∙ take_at read _ n long
 
     same_n : (f : ℕ → ℕ) → length (tabulate (sizes_in text).n f) ≡ n
     same_n f = length_tabulate (sizes_in text).n f ∙ ap (λ (s : Sizes). s.n) sizes
@@ -51,8 +51,8 @@ module _ (limit most : ℕ) (text votes crashes reaches : List ℕ) where
     unfolding schedule_in
     its_n = ap (λ (s : Sizes). s.n) sizes
 
-    pub schedule_read_lem : (v c m : List ℕ) → v ≡ votesAfter limit most text votes crashes reaches → c ≡ crashesAfter limit most text votes crashes reaches
-        → m ≡ reachesAfter limit most text votes crashes reaches → schedule_of n t (take n v) (take n c) (take n m) ≡ schedule_in text
+    pub schedule_read_lem : (v c m : List ℕ) → v ≡ votes_after limit most text votes crashes reaches → c ≡ crashes_after limit most text votes crashes reaches
+        → m ≡ reaches_after limit most text votes crashes reaches → schedule_of n t (take n v) (take n c) (take n m) ≡ schedule_in text
     unfolding schedule_in
     schedule_read_lem v c m hv hc hm =
         let fv = front _ _ v (same_n _) hv in
@@ -61,8 +61,8 @@ module _ (limit most : ℕ) (text votes crashes reaches : List ℕ) where
         same_schedule (sym (ap (λ (s : Sizes). s.n) sizes)) (sym (ap (λ (s : Sizes). s.t) sizes)) fv fc fm
 
   -- a refusal has a number other than 0
-  pub read_numbered : (number k : ℕ) → readAnswer limit most text votes crashes reaches ≡ refused number k → number ≢ 0
-  unfolding readAnswer readQuestions text_answer
+  pub read_numbered : (number k : ℕ) → read_answer limit most text votes crashes reaches ≡ refused number k → number ≢ 0
+  unfolding read_answer read_questions text_answer
   read_numbered number k e =
       elim (and_next_either questions (accepted (sizes_in text)) number k e) [
         | inl h ↦
@@ -78,8 +78,8 @@ module _ (limit most : ℕ) (text votes crashes reaches : List ℕ) where
     abbrev text_asked : questions ≡ text_questions text limit most
     text_asked = asked_text text limit most votes crashes reaches sized
 
-    pub text_refused : {number k : ℕ} → refused number k ≡ readAnswer limit most text votes crashes reaches → text_answer text limit most ≡ refused number k
-    unfolding readAnswer text_answer
+    pub text_refused : {number k : ℕ} → refused number k ≡ read_answer limit most text votes crashes reaches → text_answer text limit most ≡ refused number k
+    unfolding read_answer text_answer
     text_refused {number} {k} e =
         elim (and_next_either questions (accepted (sizes_in text)) number k (sym e)) [
           | inl h ↦ and_next_refused _ _ number k (sym text_asked ∙ h)
@@ -94,15 +94,15 @@ module _ (limit most : ℕ) (text votes crashes reaches : List ℕ) where
       pub its_schedule : schedule_in text ≡ s
       its_schedule = ap (value_or s) parts.1
 
-      pub sizes_answered : readAnswer limit most text votes crashes reaches ≡ accepted (record { n = s.n; t = s.t })
+      pub sizes_answered : read_answer limit most text votes crashes reaches ≡ accepted (record { n = s.n; t = s.t })
       unfolding schedule_in
       sizes_answered =
           sym (read_accepted text limit most votes crashes reaches (text_asked ∙ parts.0))
           ∙ ap (λ (x : Schedule). accepted (record { n = x.n; t = x.t })) its_schedule
 
       -- each table gets what f takes of the schedule
-      pub table_filled : (f : Schedule → List ℕ) (lent : List ℕ) → tableAfter limit most text votes crashes reaches (f (schedule_in text)) lent ≡ f s ++ drop (length (f s)) lent
-      unfolding tableAfter
+      pub table_filled : (f : Schedule → List ℕ) (lent : List ℕ) → table_after limit most text votes crashes reaches (f (schedule_in text)) lent ≡ f s ++ drop (length (f s)) lent
+      unfolding table_after
       table_filled f lent =
-          ap (λ (q : Answer (Unit {0}) ℕ). givenOr q (filled (f (schedule_in text)) lent) lent) (text_asked ∙ parts.0)
+          ap (λ (q : Answer (Unit {0}) ℕ). given_or q (filled (f (schedule_in text)) lent) lent) (text_asked ∙ parts.0)
           ∙ ap (λ (x : Schedule). filled (f x) lent) its_schedule

@@ -21,16 +21,16 @@ use Rattle.text.specs.Reading.{on_line, sizes_in, entry_in, schedule_in, entry_q
 use Rattle.text.proofs.Accepted.{line_passed}
 use Rattle.reader.specs.declared.Asked.{Asked}
 use Rattle.reader.specs.declared.Asked.TheVariants.{Passed}
-use Rattle.reader.specs.Answers.{givenOr, filled, readQuestions, readAnswer, tableAfter}
+use Rattle.reader.specs.Answers.{given_or, filled, read_questions, read_answer, table_after}
 use Rattle.reader.specs.Parts.{Table, EntriesRead}
 
 -- What is given, and what is kept.
 module _ {A B : Type 0} {q : Answer (Unit {0}) B} (given kept : A) where
-  pub gives : q ≡ accepted tt → given ≡ givenOr q given kept
-  gives e = sym (ap (λ (x : Answer (Unit {0}) B). givenOr x given kept) e)
+  pub gives : q ≡ accepted tt → given ≡ given_or q given kept
+  gives e = sym (ap (λ (x : Answer (Unit {0}) B). given_or x given kept) e)
 
-  pub keeps : {number : ℕ} {back : B} → q ≡ refused number back → kept ≡ givenOr q given kept
-  keeps e = sym (ap (λ (x : Answer (Unit {0}) B). givenOr x given kept) e)
+  pub keeps : {number : ℕ} {back : B} → q ≡ refused number back → kept ≡ given_or q given kept
+  keeps e = sym (ap (λ (x : Answer (Unit {0}) B). given_or x given kept) e)
 
 -- a table whose first n entries are copied from one that holds these entries
 pub filled_with : (n : ℕ) (own lent read : List ℕ) {after : List ℕ} → n ≤ length own → take n own ≡ read → Overwritten n (λ i. get_or own i 0) lent after
@@ -94,16 +94,16 @@ module _ (text : List ℕ) (limit most : ℕ) where
 
   module _ (votes crashes reaches : List ℕ) where
     abbrev pub asked : Answer (Unit {0}) ℕ
-    asked = readQuestions limit most text votes crashes reaches
+    asked = read_questions limit most text votes crashes reaches
 
     pub tables_refuse : tables_of limit (length votes) (length crashes) (length reaches) ≡ false → asked ≡ refused 3 0
-    unfolding readQuestions on_line answer ask and_next
+    unfolding read_questions on_line answer ask and_next
     tables_refuse h = rw h
 
     module _ (h : tables_of limit (length votes) (length crashes) (length reaches) ≡ true) where
       -- the tables are of their size, so only the text is asked about
       pub asked_text : asked ≡ text_questions text limit most
-      unfolding readQuestions on_line answer ask and_next
+      unfolding read_questions on_line answer ask and_next
       asked_text = rw h
 
       parts : asked ≡ and_next (head_questions text limit most) (rest_questions text)
@@ -122,18 +122,18 @@ module _ (text : List ℕ) (limit most : ℕ) where
           (parts ∙ and_next_passes _ _ p.0, same, omega arith)
 
     -- what is then answered
-    pub read_refused : {number k : ℕ} → asked ≡ refused number k → refused number k ≡ readAnswer limit most text votes crashes reaches
-    unfolding readAnswer
+    pub read_refused : {number k : ℕ} → asked ≡ refused number k → refused number k ≡ read_answer limit most text votes crashes reaches
+    unfolding read_answer
     read_refused {number} {k} e = sym (and_next_refused _ _ number k e)
 
-    pub read_accepted : asked ≡ accepted tt → accepted (sizes_in text) ≡ readAnswer limit most text votes crashes reaches
-    unfolding readAnswer
+    pub read_accepted : asked ≡ accepted tt → accepted (sizes_in text) ≡ read_answer limit most text votes crashes reaches
+    unfolding read_answer
     read_accepted e = sym (and_next_passes _ _ e)
 
-    pub table_kept : {number k : ℕ} → asked ≡ refused number k → (read lent : List ℕ) → lent ≡ tableAfter limit most text votes crashes reaches read lent
-    unfolding tableAfter
+    pub table_kept : {number k : ℕ} → asked ≡ refused number k → (read lent : List ℕ) → lent ≡ table_after limit most text votes crashes reaches read lent
+    unfolding table_after
     table_kept e read lent = keeps _ _ e
 
-    pub table_read : asked ≡ rest_questions text → (read lent : List ℕ) → givenOr (rest_questions text) (filled read lent) lent ≡ tableAfter limit most text votes crashes reaches read lent
-    unfolding tableAfter
-    table_read e read lent = sym (ap (λ (x : Answer (Unit {0}) ℕ). givenOr x (filled read lent) lent) e)
+    pub table_read : asked ≡ rest_questions text → (read lent : List ℕ) → given_or (rest_questions text) (filled read lent) lent ≡ table_after limit most text votes crashes reaches read lent
+    unfolding table_after
+    table_read e read lent = sym (ap (λ (x : Answer (Unit {0}) ℕ). given_or x (filled read lent) lent) e)

@@ -9,14 +9,14 @@ use Rattle.reader.specs.declared.Reading.{Reading}
 use Rattle.reader.specs.declared.Reading.TheVariants.{Read, Refused}
 
 -- for each case of the answer's enum document 01's number and values: a refusal gives its number and the line's
-abbrev pub readingIs : Reading → Answer Sizes ℕ
-readingIs (Read n t) = accepted (record { n = n; t = t })
-readingIs (Refused number line) = refused number line
+abbrev pub reading_is : Reading → Answer Sizes ℕ
+reading_is (Read n t) = accepted (record { n = n; t = t })
+reading_is (Refused number line) = refused number line
 
 -- what is given if every question is answered by yes, or else what is kept
-abbrev pub givenOr : {A B : Type 0} → Answer (Unit {0}) B → A → A → A
-givenOr (accepted _) given kept = given
-givenOr (refused number line) given kept = kept
+abbrev pub given_or : {A B : Type 0} → Answer (Unit {0}) B → A → A → A
+given_or (accepted _) given kept = given
+given_or (refused number line) given kept = kept
 
 -- a lent table whose first entries are those that were read
 abbrev pub filled : List ℕ → List ℕ → List ℕ
@@ -25,29 +25,29 @@ filled read lent = read ++ drop (length read) lent
 -- A call with a text and three tables: `limit` is the largest n that is accepted and the tables' size, `most` how many bytes a text may have.
 module _ (limit most : ℕ) (text votes crashes reaches : List ℕ) where
   -- "Text: three tables of 32? 3, line 0.", with the limit for 32, and then the questions of the text
-  unfoldable pub readQuestions : Answer (Unit {0}) ℕ
-  readQuestions = and_next (on_line 0 (ask (tables_of limit (length votes) (length crashes) (length reaches)) 3 0)) (text_questions text limit most)
+  unfoldable pub read_questions : Answer (Unit {0}) ℕ
+  read_questions = and_next (on_line 0 (ask (tables_of limit (length votes) (length crashes) (length reaches)) 3 0)) (text_questions text limit most)
 
   -- n and t, or the number and the line of the first question whose answer is no
-  unfoldable pub readAnswer : Answer Sizes ℕ
-  readAnswer = and_next readQuestions (accepted (sizes_in text))
+  unfoldable pub read_answer : Answer Sizes ℕ
+  read_answer = and_next read_questions (accepted (sizes_in text))
 
   -- A table after the call: "The reader fills three lent tables .. and leaves entries above n unchanged." A refused text changes none.
-  unfoldable pub tableAfter : List ℕ → List ℕ → List ℕ
-  tableAfter read lent = givenOr readQuestions (filled read lent) lent
+  unfoldable pub table_after : List ℕ → List ℕ → List ℕ
+  table_after read lent = given_or read_questions (filled read lent) lent
 
-  abbrev pub votesAfter : List ℕ
-  votesAfter = tableAfter (schedule_in text).votes votes
+  abbrev pub votes_after : List ℕ
+  votes_after = table_after (schedule_in text).votes votes
 
-  abbrev pub crashesAfter : List ℕ
-  crashesAfter = tableAfter (schedule_in text).crashes crashes
+  abbrev pub crashes_after : List ℕ
+  crashes_after = table_after (schedule_in text).crashes crashes
 
-  abbrev pub reachesAfter : List ℕ
-  reachesAfter = tableAfter (schedule_in text).reaches reaches
+  abbrev pub reaches_after : List ℕ
+  reaches_after = table_after (schedule_in text).reaches reaches
 
 -- What the call promises: of its answer, and of the three tables after it.
 pub record Reads (text votes crashes reaches : List ℕ) (r : Reading) (votes_now crashes_now reaches_now : List ℕ) : Type 0 where
-  pub answered : readingIs r ≡ readAnswer largest longest text votes crashes reaches
-  pub votes_read : votes_now ≡ votesAfter largest longest text votes crashes reaches
-  pub crashes_read : crashes_now ≡ crashesAfter largest longest text votes crashes reaches
-  pub reaches_read : reaches_now ≡ reachesAfter largest longest text votes crashes reaches
+  pub answered : reading_is r ≡ read_answer largest longest text votes crashes reaches
+  pub votes_read : votes_now ≡ votes_after largest longest text votes crashes reaches
+  pub crashes_read : crashes_now ≡ crashes_after largest longest text votes crashes reaches
+  pub reaches_read : reaches_now ≡ reaches_after largest longest text votes crashes reaches

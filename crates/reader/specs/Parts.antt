@@ -4,7 +4,7 @@ use Rattle.laws.specs.Answer.{Answer, accepted, refused}
 use Rattle.laws.specs.Filled.{Filled, Overwritten}
 use Rattle.sets.specs.Largest.{largest}
 use Rattle.text.specs.Reading.{entry_in, schedule_in, rest_questions}
-use Rattle.reader.specs.Answers.{givenOr, filled}
+use Rattle.reader.specs.Answers.{given_or, filled}
 use Rattle.reader.specs.declared.Asked.{Asked}
 use Rattle.reader.specs.declared.Asked.TheVariants.{Passed, Refused}
 
@@ -25,9 +25,9 @@ EntriesRead Passed text n votes crashes reaches =
 -- What is read after line 3: the answer, and each table after it, filled or as it was lent.
 pub record ReadsRest (text votes crashes reaches : List ℕ) (r : Asked) (votes_now crashes_now reaches_now : List ℕ) : Type 0 where
   pub asked : asked_is r ≡ rest_questions text
-  pub votes_read : votes_now ≡ givenOr (rest_questions text) (filled (schedule_in text).votes votes) votes
-  pub crashes_read : crashes_now ≡ givenOr (rest_questions text) (filled (schedule_in text).crashes crashes) crashes
-  pub reaches_read : reaches_now ≡ givenOr (rest_questions text) (filled (schedule_in text).reaches reaches) reaches
+  pub votes_read : votes_now ≡ given_or (rest_questions text) (filled (schedule_in text).votes votes) votes
+  pub crashes_read : crashes_now ≡ given_or (rest_questions text) (filled (schedule_in text).crashes crashes) crashes
+  pub reaches_read : reaches_now ≡ given_or (rest_questions text) (filled (schedule_in text).reaches reaches) reaches
 
 -- Three lent tables after their first n entries were filled with those of three others, and the other entries left.
 pub record Fills (n : ℕ) (voted crashed reached votes crashes reaches votes_now crashes_now reaches_now : List ℕ) : Type 0 where

@@ -8,7 +8,7 @@ use Rattle.sets.specs.Largest.{largest}
 use Rattle.schedule.specs.Four.{four, all_one}
 use Rattle.text.specs.Forms.{Sizes}
 use Rattle.text.specs.Reading.{longest}
-use Rattle.reader.specs.Answers.{readAnswer, votesAfter, crashesAfter, reachesAfter}
+use Rattle.reader.specs.Answers.{read_answer, votes_after, crashes_after, reaches_after}
 
 -- three tables
 pub record Tables : Type 0 where
@@ -57,13 +57,13 @@ calls =
 -- what the definitions give for a call
 module _ (c : ReadCall) where
   abbrev pub answers : Answer Sizes ℕ
-  answers = readAnswer largest longest (quoted c.text) c.lent.votes c.lent.crashes c.lent.reaches
+  answers = read_answer largest longest (quoted c.text) c.lent.votes c.lent.crashes c.lent.reaches
 
   abbrev pub leaves : Tables
   leaves = record {
-    votes = votesAfter largest longest (quoted c.text) c.lent.votes c.lent.crashes c.lent.reaches;
-    crashes = crashesAfter largest longest (quoted c.text) c.lent.votes c.lent.crashes c.lent.reaches;
-    reaches = reachesAfter largest longest (quoted c.text) c.lent.votes c.lent.crashes c.lent.reaches;
+    votes = votes_after largest longest (quoted c.text) c.lent.votes c.lent.crashes c.lent.reaches;
+    crashes = crashes_after largest longest (quoted c.text) c.lent.votes c.lent.crashes c.lent.reaches;
+    reaches = reaches_after largest longest (quoted c.text) c.lent.votes c.lent.crashes c.lent.reaches;
   }
 
 -- each of these calls has its answer, and leaves its tables

@@ -10,7 +10,7 @@ use lib.Dec.{leb}
 use Rattle.laws.proofs.Counting.{count_of_all, count_full}
 use Rattle.simulator.specs.declared.Counts.{Counts}
 use Rattle.simulator.specs.declared.Outcome.{Outcome}
-use Rattle.simulator.specs.Answers.{givenBy}
+use Rattle.simulator.specs.Answers.{given_by}
 use Rattle.text.specs.Output.{report_text, outcome_text}
 use Rattle.report.specs.Shown.{are_decisions, shown, written_outcome}
 
@@ -27,7 +27,7 @@ all_decisions decisions h =
     eq-eqb _ (length decisions) (count_of_all (length decisions) (λ i. leb (get_or decisions i 0) 2) (λ i l. le-leb (get_or decisions i 0) 2 (h i l)))
 
 module _ (t : ℕ) (counts : Counts) (decisions rounds : List ℕ) where
-  pub shown_all : length rounds ≡ length decisions → are_decisions decisions ≡ true → shown t counts decisions rounds ≡ report_text (length decisions) t (givenBy counts decisions rounds)
+  pub shown_all : length rounds ≡ length decisions → are_decisions decisions ≡ true → shown t counts decisions rounds ≡ report_text (length decisions) t (given_by counts decisions rounds)
   unfolding shown
   shown_all e h = rw (eq-eqb (length rounds) (length decisions) e, h)
 

@@ -3,7 +3,7 @@ use Rattle.std.specs.Prelude.{ℕ, List, [], Bool, cond, ◌&&◌, length, get_o
 use Rattle.laws.specs.Below.{count}
 use Rattle.simulator.specs.declared.Counts.{Counts}
 use Rattle.simulator.specs.declared.Outcome.{Outcome}
-use Rattle.simulator.specs.Answers.{givenBy}
+use Rattle.simulator.specs.Answers.{given_by}
 use Rattle.text.specs.Output.{report_text, outcome_text}
 
 -- "For each process the bench gives decision 0, 1 or 2 (none)": whether each of these is a decision
@@ -14,7 +14,7 @@ are_decisions decisions = eqb (count (length decisions) (λ i. leb (get_or decis
 unfoldable pub shown : ℕ → Counts → List ℕ → List ℕ → List ℕ
 shown t counts decisions rounds =
     cond (eqb (length rounds) (length decisions) && are_decisions decisions)
-    (report_text (length decisions) t (givenBy counts decisions rounds))
+    (report_text (length decisions) t (given_by counts decisions rounds))
     []
 
 -- the two lines of an outcome; nothing, if it holds what is no decision

@@ -10,7 +10,7 @@
 mod reasons;
 
 ghost use Rattle.std.specs.Prelude.{◌≡◌, List, true, ℕ, ◌+◌, ◌^◌, ◌≤◌, ◌<◌, length};
-ghost use Rattle.simulator.specs.Answers.{givenBy};
+ghost use Rattle.simulator.specs.Answers.{given_by};
 ghost use Rattle.text.specs.Output.{decision_letter, decided_fields, decision_line, decision_lines, counts_line, report_text, refusal_text};
 ghost use Rattle.buffer.specs.Buffer.{Writes};
 ghost use Rattle.report.specs.Shown.{are_decisions, shown, written_outcome};
@@ -71,7 +71,7 @@ fn put_decisions(bytes: &mut [u8], at: usize, decisions: &[u8], decided: &[u8]) 
 
 // Writes the line of n, t and the counts.
 fn put_counts(bytes: &mut [u8], at: usize, n: usize, t: usize, counts: Counts) -> usize
-    ensures written { (decisions rounds : List ℕ) → Writes bytes.old at bytes.new result (counts_line n t (givenBy counts decisions rounds)) }
+    ensures written { (decisions rounds : List ℕ) → Writes bytes.old at bytes.new result (counts_line n t (given_by counts decisions rounds)) }
 {
     let after_n = put_field(bytes, at, n, SPACE);
     let after_t = put_field(bytes, after_n, t, SPACE);
@@ -106,7 +106,7 @@ fn put_lines(
 ) -> usize
     requires size { length decided.now ≡ length decisions.now }
     requires values { are_decisions decisions.now ≡ true }
-    ensures written { Writes bytes.old at bytes.new result (report_text (length decisions.now) t (givenBy counts decisions.now decided.now)) }
+    ensures written { Writes bytes.old at bytes.new result (report_text (length decisions.now) t (given_by counts decisions.now decided.now)) }
 {
     let heading = put(bytes, at, b"n t f first last messages\n");
     let values = put_counts(bytes, heading, decisions.len(), t, counts);

@@ -18,7 +18,7 @@ use Rattle.execution.specs.declared.FirstDecision.{FirstDecision}
 use Rattle.execution.specs.Decision.{first_decision_of}
 use Rattle.simulator.specs.declared.Outcome.{Outcome}
 use Rattle.simulator.specs.declared.Concluded.TheVariants as Concluded
-use Rattle.simulator.specs.Answers.{outcomeOf, outcomeAnswer, Concludes}
+use Rattle.simulator.specs.Answers.{outcome_of, outcome_answer, Concludes}
 
 -- A call for which the rounds leave `first`.
 module _ (s : Schedule) {first : FirstDecision} (left : first ≡ first_decision_of fcwfa largest s) where
@@ -26,7 +26,7 @@ module _ (s : Schedule) {first : FirstDecision} (left : first ≡ first_decision
   asked = ap (λ (f : FirstDecision). f.question) left
 
   pub refused_concludes : (first.question ≡ 0 → ⊥) → Concludes s (Concluded.Refused first.question)
-  unfolding outcomeAnswer
+  unfolding outcome_answer
   refused_concludes other = record {
     answered = ap (λ (k : ℕ). refused k tt) asked ∙ sym (answer_refused _ _ tt (λ e. other (asked ∙ e)));
     promises = record { kept = λ outcome e. absurd (not_accepted e) };
@@ -47,12 +47,12 @@ module _ (s : Schedule) {first : FirstDecision} (left : first ≡ first_decision
     decision_is e = e ∙ ap (λ (m : Member). cond (eqb m.decided 0) 2 m.estimate) member_is
 
     outcome_is : {d : ℕ} → d ≡ cond (eqb first.member.decided 0) 2 first.member.estimate
-        → ◌≡◌ {A = Outcome} (record { decision = d; round = first.round }) (outcomeOf fcwfa s)
+        → ◌≡◌ {A = Outcome} (record { decision = d; round = first.round }) (outcome_of fcwfa s)
     outcome_is e i = record { decision = decision_is e i; round = round_is i }
 
     pub decided_concludes : {d : ℕ} → d ≡ cond (eqb first.member.decided 0) 2 first.member.estimate
         → Concludes s (Concluded.Decided (record { decision = d; round = first.round }))
-    unfolding outcomeAnswer
+    unfolding outcome_answer
     decided_concludes e = record {
       answered = ap (λ (o : Outcome). accepted o) (outcome_is e) ∙ sym (answer_accepted _ _ tt passed);
       promises = record {

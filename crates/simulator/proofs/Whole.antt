@@ -28,30 +28,30 @@ use Rattle.execution.specs.Ran.{messages_after, ran_of}
 use Rattle.execution.proofs.Whole.{left_messages, all_rounds, final_at}
 use Rattle.simulator.specs.declared.Counts.{Counts}
 use Rattle.simulator.specs.declared.Simulated.TheVariants.{Completed, Refused}
-use Rattle.simulator.specs.Answers.{simulatedIs, countsOf, simulateQuestion, simulateAnswer, decisionsAfter, roundsAfter, givenBy, AnswersKeepPromises}
+use Rattle.simulator.specs.Answers.{simulated_is, counts_of, simulate_question, simulate_answer, decisions_after, rounds_after, given_by, AnswersKeepPromises}
 
 -- A call for which the rounds leave `ran`.
 module _ (P : Protocol) (s : Schedule) (decisions rounds : List ℕ) {ran : Ran}
     (left : ran ≡ ran_of P largest s (answers_of s.n (length decisions) (length rounds)) (min largest (s.t + 1))) where
-  asked : ran.question ≡ simulateQuestion largest s decisions rounds
+  asked : ran.question ≡ simulate_question largest s decisions rounds
   asked = ap (λ (r : Ran). r.question) left
 
   module _ (no : ran.question ≡ 0 → ⊥) where
-    refusing : simulateQuestion largest s decisions rounds ≡ 0 → ⊥
+    refusing : simulate_question largest s decisions rounds ≡ 0 → ⊥
     refusing e = no (asked ∙ e)
 
-    pub refused_answer : refused ran.question tt ≡ simulateAnswer P largest s decisions rounds
-    unfolding simulateAnswer
+    pub refused_answer : refused ran.question tt ≡ simulate_answer P largest s decisions rounds
+    unfolding simulate_answer
     refused_answer = ap (λ (k : ℕ). refused k tt) asked ∙ sym (answer_refused _ _ tt refusing)
 
-    pub kept_table : (given lent : List ℕ) → lent ≡ place_after (simulateQuestion largest s decisions rounds) given lent
+    pub kept_table : (given lent : List ℕ) → lent ≡ place_after (simulate_question largest s decisions rounds) given lent
     kept_table given lent = sym (place_kept _ given lent refusing)
 
     pub refused_keeps : AnswersKeepPromises s (Refused ran.question) decisions rounds
     refused_keeps = record { kept = λ counts e. absurd (not_accepted e) }
 
   module _ (yes? : ran.question ≡ 0) where
-    pub passed : simulateQuestion largest s decisions rounds ≡ 0
+    pub passed : simulate_question largest s decisions rounds ≡ 0
     passed = sym asked ∙ yes?
 
     accepts : Accepted s largest (answers_of s.n (length decisions) (length rounds))
@@ -64,7 +64,7 @@ module _ (P : Protocol) (s : Schedule) (decisions rounds : List ℕ) {ran : Ran}
     pub small : s.n ≤ largest
     small = accepts.n_high
 
-    given_table : (given lent : List ℕ) → given ≡ place_after (simulateQuestion largest s decisions rounds) given lent
+    given_table : (given lent : List ℕ) → given ≡ place_after (simulate_question largest s decisions rounds) given lent
     given_table given lent = sym (place_given _ given lent passed)
 
     state_at_lem : (i : ℕ) → i < s.n → state_at ran.members i ≡ state_at (final P s) i
@@ -103,7 +103,7 @@ module _ (P : Protocol) (s : Schedule) (decisions rounds : List ℕ) {ran : Ran}
       rounds_long : length rounds-now ≡ s.n
       rounds_long = ap length (rounds_are r) ∙ length_tabulate s.n (round_of (final P s))
 
-      counts_are : c ≡ countsOf (report P s)
+      counts_are : c ≡ counts_of (report P s)
       counts_are =
           found
           ∙ (λ i. record {
@@ -113,20 +113,20 @@ module _ (P : Protocol) (s : Schedule) (decisions rounds : List ℕ) {ran : Ran}
             messages = messages_are i;
           })
 
-      pub completed_answer : accepted c ≡ simulateAnswer P largest s decisions rounds
-      unfolding simulateAnswer
+      pub completed_answer : accepted c ≡ simulate_answer P largest s decisions rounds
+      unfolding simulate_answer
       completed_answer = ap (λ (k : Counts). accepted k) counts_are ∙ sym (answer_accepted _ _ tt passed)
 
-      pub given_decisions : decisions-now ≡ decisionsAfter P largest s decisions rounds
+      pub given_decisions : decisions-now ≡ decisions_after P largest s decisions rounds
       given_decisions = decisions_are d ∙ given_table (report P s).decisions decisions
 
-      pub given_rounds : rounds-now ≡ roundsAfter P largest s decisions rounds
+      pub given_rounds : rounds-now ≡ rounds_after P largest s decisions rounds
       given_rounds = rounds_are r ∙ given_table (report P s).rounds rounds
 
       -- what was given is the report
-      pub given_is : (k : Counts) → simulatedIs (Completed c) ≡ accepted k → givenBy k decisions-now rounds-now ≡ report P s
+      pub given_is : (k : Counts) → simulated_is (Completed c) ≡ accepted k → given_by k decisions-now rounds-now ≡ report P s
       given_is k e =
-          let counts : k ≡ countsOf (report P s) = sym (ap (value_or k) e) ∙ counts_are in
+          let counts : k ≡ counts_of (report P s) = sym (ap (value_or k) e) ∙ counts_are in
           λ i. record {
             f = (counts i).f;
             first = (counts i).first;
@@ -138,6 +138,6 @@ module _ (P : Protocol) (s : Schedule) (decisions rounds : List ℕ) {ran : Ran}
 
 -- and the promises hold of the report of FCWFA
 pub completed_keeps : (s : Schedule) (answers : Bool) {c : Counts} {decisions rounds : List ℕ} → question s largest answers ≡ 0
-    → ((k : Counts) → simulatedIs (Completed c) ≡ accepted k → givenBy k decisions rounds ≡ report fcwfa s) → AnswersKeepPromises s (Completed c) decisions rounds
+    → ((k : Counts) → simulated_is (Completed c) ≡ accepted k → given_by k decisions rounds ≡ report fcwfa s) → AnswersKeepPromises s (Completed c) decisions rounds
 completed_keeps s answers passed is =
     record { kept = λ k e. subst (GivenPromises s) (sym (is k e)) (accepted_run s largest answers passed).given }

@@ -11,7 +11,7 @@ use Rattle.simulator.specs.declared.Counts.{Counts}
 use Rattle.simulator.specs.declared.Simulated.TheVariants.{Completed, Refused}
 use Rattle.simulator.specs.declared.Outcome.{Outcome}
 use Rattle.simulator.specs.declared.Concluded.TheVariants as Concluded
-use Rattle.simulator.specs.Answers.{simulatedIs, countsOf, simulateAnswer, decisionsAfter, roundsAfter, givenBy, concludedIs, outcomeAnswer}
+use Rattle.simulator.specs.Answers.{simulated_is, counts_of, simulate_answer, decisions_after, rounds_after, given_by, concluded_is, outcome_answer}
 
 -- a schedule and the two answer tables lent with it; the answer, and the tables after the call
 pub record SimulateCall : Type 0 where
@@ -60,17 +60,17 @@ calls =
 
 -- each of these calls has its answer, and leaves its tables
 pub record SimulatorVectors : Type 0 where
-  pub answered : map (λ c. simulateAnswer fcwfa largest c.schedule c.decisions c.rounds) calls ≡ map (λ c. c.answer) calls
-  pub decided : map (λ c. decisionsAfter fcwfa largest c.schedule c.decisions c.rounds) calls ≡ map (λ c. c.decisions_now) calls
-  pub timed : map (λ c. roundsAfter fcwfa largest c.schedule c.decisions c.rounds) calls ≡ map (λ c. c.rounds_now) calls
+  pub answered : map (λ c. simulate_answer fcwfa largest c.schedule c.decisions c.rounds) calls ≡ map (λ c. c.answer) calls
+  pub decided : map (λ c. decisions_after fcwfa largest c.schedule c.decisions c.rounds) calls ≡ map (λ c. c.decisions_now) calls
+  pub timed : map (λ c. rounds_after fcwfa largest c.schedule c.decisions c.rounds) calls ≡ map (λ c. c.rounds_now) calls
 
 -- What each case of the answer's enum stands for, and the report that counts and tables make: its values are not exchanged.
 pub record SimulatedCases (counts : Counts) (decisions rounds : List ℕ) : Type 0 where
-  pub completed : simulatedIs (Completed counts) ≡ accepted counts
-  pub not_run : simulatedIs (Refused 7) ≡ refused 7 tt
-  pub given_counts : countsOf (givenBy counts decisions rounds) ≡ counts
-  pub given_decisions : (givenBy counts decisions rounds).decisions ≡ decisions
-  pub given_rounds : (givenBy counts decisions rounds).rounds ≡ rounds
+  pub completed : simulated_is (Completed counts) ≡ accepted counts
+  pub not_run : simulated_is (Refused 7) ≡ refused 7 tt
+  pub given_counts : counts_of (given_by counts decisions rounds) ≡ counts
+  pub given_decisions : (given_by counts decisions rounds).decisions ≡ decisions
+  pub given_rounds : (given_by counts decisions rounds).rounds ≡ rounds
 
 -- A schedule, and what `conclude` answers for it.
 pub record OutcomeCall : Type 0 where
@@ -89,9 +89,9 @@ outcome_calls =
     []
 
 abbrev pub OutcomeVectors : Type 0
-OutcomeVectors = map (λ c. outcomeAnswer fcwfa largest c.schedule) outcome_calls ≡ map (λ c. c.answer) outcome_calls
+OutcomeVectors = map (λ c. outcome_answer fcwfa largest c.schedule) outcome_calls ≡ map (λ c. c.answer) outcome_calls
 
 -- What each case of the answer's enum stands for.
 pub record ConcludedCases (outcome : Outcome) : Type 0 where
-  pub decided : concludedIs (Concluded.Decided outcome) ≡ accepted outcome
-  pub not_played : concludedIs (Concluded.Refused 7) ≡ refused 7 tt
+  pub decided : concluded_is (Concluded.Decided outcome) ≡ accepted outcome
+  pub not_played : concluded_is (Concluded.Refused 7) ≡ refused 7 tt

@@ -17,45 +17,45 @@ use Rattle.text.specs.Written.{text_of}
 use Rattle.buffer.specs.Buffer.{Writes}
 use Rattle.buffer.proofs.Written.{written_front}
 use Rattle.writer.specs.declared.Writing.TheVariants.{Written, Refused}
-use Rattle.writer.specs.Answers.{writeQuestion, writeAnswer, WritesSchedule}
+use Rattle.writer.specs.Answers.{write_question, write_answer, WritesSchedule}
 
 module _ (limit : ℕ) (s : Schedule) (buffer : List ℕ) where
-  pub tables_refuse : question s limit true ≢ 0 → writeQuestion limit s buffer ≡ question s limit true
-  unfolding writeQuestion and_then
+  pub tables_refuse : question s limit true ≢ 0 → write_question limit s buffer ≡ question s limit true
+  unfolding write_question and_then
   tables_refuse h = rw (ne_eqb (question s limit true) 0 h)
 
   module _ (asked : question s limit true ≡ 0) where
-    pub too_short : length buffer < length (text_of s) → writeQuestion limit s buffer ≡ 18
-    unfolding writeQuestion and_then ask
+    pub too_short : length buffer < length (text_of s) → write_question limit s buffer ≡ 18
+    unfolding write_question and_then ask
     too_short h = rw (eq-eqb (question s limit true) 0 asked, lt-leb (length (text_of s)) (length buffer) h)
 
-    pub long_enough : length (text_of s) ≤ length buffer → writeQuestion limit s buffer ≡ 0
-    unfolding writeQuestion and_then ask
+    pub long_enough : length (text_of s) ≤ length buffer → write_question limit s buffer ≡ 0
+    unfolding write_question and_then ask
     long_enough h = rw (eq-eqb (question s limit true) 0 asked, le-leb (length (text_of s)) (length buffer) h)
 
   -- a call whose questions are all passed
-  pub questions_passed : writeQuestion limit s buffer ≡ 0 → (question s limit true ≡ 0) × (length (text_of s) ≤ length buffer)
-  unfolding writeQuestion
+  pub questions_passed : write_question limit s buffer ≡ 0 → (question s limit true ≡ 0) × (length (text_of s) ≤ length buffer)
+  unfolding write_question
   questions_passed e =
       let p = and_then_went_on (question s limit true) _ 0 (λ z. z) e in
       (p.0, leb-true (length (text_of s)) (length buffer) (passed _ 18 0 (omega arith) p.1).0)
 
 -- A call that refuses, and one that writes.
 module _ (s : Schedule) (buffer : List ℕ) where
-  pub refuses : (number : ℕ) → writeQuestion largest s buffer ≡ number → number ≢ 0 → WritesSchedule s buffer (Refused number) buffer
-  unfolding writeAnswer
+  pub refuses : (number : ℕ) → write_question largest s buffer ≡ number → number ≢ 0 → WritesSchedule s buffer (Refused number) buffer
+  unfolding write_answer
   refuses number e h = record {
     answered = sym (ap (λ (q : ℕ). answer q (length (text_of s)) tt) e ∙ answer_refused number (length (text_of s)) tt h);
-    text_written = sym (place_kept (writeQuestion largest s buffer) _ buffer (λ z. h (sym e ∙ z)));
+    text_written = sym (place_kept (write_question largest s buffer) _ buffer (λ z. h (sym e ∙ z)));
   }
 
   pub writes : {next : ℕ} {after : List ℕ} → question s largest true ≡ 0 → length (text_of s) ≤ length buffer → Writes buffer 0 after next (text_of s)
       → WritesSchedule s buffer (Written next) after
-  unfolding writeAnswer
+  unfolding write_answer
   writes {next} asked fits w =
       let z = long_enough largest s buffer asked fits in
       let front = written_front buffer (text_of s) fits in
       record {
-        answered = ap accepted (w.place ∙ front.place) ∙ sym (answer_accepted (writeQuestion largest s buffer) (length (text_of s)) tt z);
-        text_written = w.bytes ∙ front.bytes ∙ sym (place_given (writeQuestion largest s buffer) _ buffer z);
+        answered = ap accepted (w.place ∙ front.place) ∙ sym (answer_accepted (write_question largest s buffer) (length (text_of s)) tt z);
+        text_written = w.bytes ∙ front.bytes ∙ sym (place_given (write_question largest s buffer) _ buffer z);
       }

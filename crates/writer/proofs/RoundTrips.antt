@@ -17,9 +17,9 @@ use Rattle.text.specs.Written.{text_of}
 use Rattle.text.specs.Reading.{longest, schedule_in, text_answer}
 use Rattle.text.specs.Facts.{TextPromises}
 use Rattle.text.proofs.Theorem.{accepted_texts, all_read_back}
-use Rattle.reader.specs.Answers.{readAnswer}
+use Rattle.reader.specs.Answers.{read_answer}
 use Rattle.reader.proofs.Texts.{text_accepted, schedule_read_lem, its_schedule, sizes_answered, table_filled}
-use Rattle.writer.specs.Answers.{writeQuestion, writeAnswer}
+use Rattle.writer.specs.Answers.{write_question, write_answer}
 use Rattle.writer.specs.RoundTrips.{WriterCall, ReaderCall, Wrote, ReadSizes, schedule_read, Restores, Makes, RoundTrips}
 use Rattle.writer.proofs.Asked.{questions_passed, long_enough}
 
@@ -29,8 +29,8 @@ module _ (w : WriterCall) where
   s = w.schedule
 
   module _ (used : ℕ) (wrote : Wrote w used) where
-    answer_is : (writeQuestion largest s w.buffer ≡ 0) × (used ≡ length (text_of s))
-    unfolding writeAnswer
+    answer_is : (write_question largest s w.buffer ≡ 0) × (used ≡ length (text_of s))
+    unfolding write_answer
     answer_is = accepted_is _ _ tt (sym wrote ∙ w.promised.answered)
 
     front : take used w.buffer_now ≡ text_of s
@@ -44,7 +44,7 @@ module _ (w : WriterCall) where
 
   -- and where its schedule is accepted and there is room, it wrote
   makes : question s largest true ≡ 0 → length (text_of s) ≤ length w.buffer → Makes w (text_of s)
-  unfolding writeAnswer
+  unfolding write_answer
   makes passed fits =
       let z = long_enough largest s w.buffer passed fits in
       record {
@@ -75,7 +75,7 @@ restored w used wrote r e sized =
 
 -- A text that was read is that of the schedule in the tables, which is accepted.
 module _ (r : ReaderCall) (n t : ℕ) (read : ReadSizes r n t) where
-  answered : accepted (record { n = n; t = t }) ≡ readAnswer largest longest r.text r.votes r.crashes r.reaches
+  answered : accepted (record { n = n; t = t }) ≡ read_answer largest longest r.text r.votes r.crashes r.reaches
   answered = sym read ∙ r.promised.answered
 
   its_schedule_in : schedule_read r n t ≡ schedule_in r.text

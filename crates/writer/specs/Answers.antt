@@ -9,25 +9,25 @@ use Rattle.writer.specs.declared.Writing.{Writing}
 use Rattle.writer.specs.declared.Writing.TheVariants.{Written, Refused}
 
 -- for each case of the answer's enum document 02's number and value
-abbrev pub writingIs : Writing → Answer ℕ (Unit {0})
-writingIs (Written used) = accepted used
-writingIs (Refused number) = refused number tt
+abbrev pub writing_is : Writing → Answer ℕ (Unit {0})
+writing_is (Written used) = accepted used
+writing_is (Refused number) = refused number tt
 
 -- A call with the tables of a schedule and a buffer: `limit` is the largest n that is accepted.
 module _ (limit : ℕ) (s : Schedule) (buffer : List ℕ) where
   -- "The table questions come first; then, buffer long enough for the whole text? 18."
-  unfoldable pub writeQuestion : ℕ
-  writeQuestion = and_then (question s limit true) (ask (leb (length (text_of s)) (length buffer)) 18 0)
+  unfoldable pub write_question : ℕ
+  write_question = and_then (question s limit true) (ask (leb (length (text_of s)) (length buffer)) 18 0)
 
   -- it "answers the length used", or the number of the first question whose answer is no
-  unfoldable pub writeAnswer : Answer ℕ (Unit {0})
-  writeAnswer = answer writeQuestion (length (text_of s)) tt
+  unfoldable pub write_answer : Answer ℕ (Unit {0})
+  write_answer = answer write_question (length (text_of s)) tt
 
   -- The buffer after the call: the text, and "Bytes after that length keep their contents." A refused call changes none.
-  abbrev pub bufferAfter : List ℕ
-  bufferAfter = place_after writeQuestion (text_of s ++ drop (length (text_of s)) buffer) buffer
+  abbrev pub buffer_after : List ℕ
+  buffer_after = place_after write_question (text_of s ++ drop (length (text_of s)) buffer) buffer
 
 -- What the call promises: of its answer, and of the buffer after it.
 pub record WritesSchedule (s : Schedule) (buffer : List ℕ) (r : Writing) (buffer_now : List ℕ) : Type 0 where
-  pub answered : writingIs r ≡ writeAnswer largest s buffer
-  pub text_written : buffer_now ≡ bufferAfter largest s buffer
+  pub answered : writing_is r ≡ write_answer largest s buffer
+  pub text_written : buffer_now ≡ buffer_after largest s buffer

@@ -7,9 +7,9 @@ use Rattle.schedule.specs.Schedule.{Schedule, schedule_of}
 use Rattle.schedule.specs.Questions.{tables_of, question}
 use Rattle.text.specs.Written.{text_of, longest_written}
 use Rattle.reader.specs.declared.Reading.{Reading}
-use Rattle.reader.specs.Answers.{readingIs, Reads}
+use Rattle.reader.specs.Answers.{reading_is, Reads}
 use Rattle.writer.specs.declared.Writing.{Writing}
-use Rattle.writer.specs.Answers.{writingIs, WritesSchedule}
+use Rattle.writer.specs.Answers.{writing_is, WritesSchedule}
 
 -- A call of the writer: the schedule of its tables and the buffer that it was lent, its answer, and the buffer after it.
 pub record WriterCall : Type 0 where
@@ -33,11 +33,11 @@ pub record ReaderCall : Type 0 where
 
 -- it wrote a text of so many bytes
 abbrev pub Wrote : WriterCall → ℕ → Type 0
-Wrote w used = writingIs w.answer ≡ accepted used
+Wrote w used = writing_is w.answer ≡ accepted used
 
 -- it read these sizes
 abbrev pub ReadSizes : ReaderCall → ℕ → ℕ → Type 0
-ReadSizes r n t = readingIs r.answer ≡ accepted (record { n = n; t = t })
+ReadSizes r n t = reading_is r.answer ≡ accepted (record { n = n; t = t })
 
 -- the schedule of these sizes in the tables' first n entries after it
 abbrev pub schedule_read : ReaderCall → ℕ → ℕ → Schedule

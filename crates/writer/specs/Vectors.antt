@@ -8,7 +8,7 @@ use Rattle.sets.specs.Largest.{largest}
 use Rattle.schedule.specs.Four.{four, all_one, all_zero, four_voting1}
 use Rattle.schedule.specs.Schedule.{Schedule, schedule_of}
 use Rattle.writer.specs.declared.Writing.TheVariants.{Written, Refused}
-use Rattle.writer.specs.Answers.{writingIs, writeAnswer, bufferAfter}
+use Rattle.writer.specs.Answers.{writing_is, write_answer, buffer_after}
 
 -- a schedule and the buffer lent with it; the answer, and the buffer after the call
 pub record Call : Type 0 where
@@ -64,10 +64,10 @@ calls =
 
 -- each of these calls has its answer, and leaves its buffer
 pub record WriterVectors : Type 0 where
-  pub answered : map (λ c. writeAnswer largest c.schedule c.lent) calls ≡ map (λ c. c.answer) calls
-  pub left : map (λ c. bufferAfter largest c.schedule c.lent) calls ≡ map (λ c. c.after) calls
+  pub answered : map (λ c. write_answer largest c.schedule c.lent) calls ≡ map (λ c. c.answer) calls
+  pub left : map (λ c. buffer_after largest c.schedule c.lent) calls ≡ map (λ c. c.after) calls
 
 -- What each case of the answer's enum stands for.
 pub record WritingCases : Type 0 where
-  pub wrote : writingIs (Written 72) ≡ accepted 72
-  pub not_written : writingIs (Refused 18) ≡ refused 18 tt
+  pub wrote : writing_is (Written 72) ≡ accepted 72
+  pub not_written : writing_is (Refused 18) ≡ refused 18 tt

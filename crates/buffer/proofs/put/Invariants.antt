@@ -1,0 +1,16 @@
+-- `put` meets its contract: after i bytes the first i of the part are written. Assumes nothing.
+use mathlib.Core.Path.{◌≡◌, refl}
+use Prim.Native.Nat.{◌≤◌, ◌-◌}
+use native.Mathlib.Omega.{arith}
+use borrow.Author.Rules.{rules}
+use lib.ListN.{length, take}
+use lib.Seq.{take_all}
+use Rattle.buffer.specs.Buffer.{Writes}
+use Rattle.buffer.proofs.Written.{writes_none, writes_same, writes_next}
+use Rattle.buffer.proofs.put.Given as goal
+
+abbrev pub invariant-loop-i : goal.invariant-loop-i
+invariant-loop-i l = (l.i ≤ length l.part) × (length l.buffer ≡ length l.initial.buffer) × Writes l.initial.buffer l.at l.buffer l.next (take l.i l.part)
+
+abbrev pub decreases-loop-i : goal.decreases-loop-i
+decreases-loop-i l = length l.part - l.i

@@ -1,0 +1,19 @@
+-- `show_cases` ends: each case that is found stands before the table's end. Assumes nothing.
+use Prim.Native.Nat.{◌-◌}
+use native.Mathlib.Omega.{arith}
+use borrow.Author.Rules.{rules}
+use lib.ListN.{length}
+use Rattle.marked.specs.Marked.{cases}
+use Rattle.cases.proofs.show_cases.Goals as goal
+
+pub show_case-requires : goal.show_case-requires
+show_case-requires c =
+    record { there = c.is_case.ensures.before_the_end c.loop-k-test.true }
+
+pub overflow_add-k : goal.overflow_add-k
+overflow_add-k c =
+    omega (arith, c.is_case.ensures.before_the_end c.loop-k-test.true)
+
+pub loop-k-smaller : goal.loop-k-smaller
+loop-k-smaller c =
+    omega (arith, c.is_case.ensures.before_the_end c.loop-k-test.true)

@@ -1,0 +1,19 @@
+-- `show_refusals` ends: each refused schedule that is found stands before the table's end. Assumes nothing.
+use Prim.Native.Nat.{◌-◌}
+use native.Mathlib.Omega.{arith}
+use borrow.Author.Rules.{rules}
+use lib.ListN.{length}
+use Rattle.refusals.specs.Refused.{refusals}
+use Rattle.cases.proofs.show_refusals.Goals as goal
+
+pub show_refusal-requires : goal.show_refusal-requires
+show_refusal-requires c =
+    record { there = c.is_refusal.ensures.before_the_end c.loop-k-test.true }
+
+pub overflow_add-k : goal.overflow_add-k
+overflow_add-k c =
+    omega (arith, c.is_refusal.ensures.before_the_end c.loop-k-test.true)
+
+pub loop-k-smaller : goal.loop-k-smaller
+loop-k-smaller c =
+    omega (arith, c.is_refusal.ensures.before_the_end c.loop-k-test.true)

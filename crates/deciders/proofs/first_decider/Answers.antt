@@ -1,0 +1,22 @@
+-- `first_decider` meets its contract: after i places its variable is the first decider of the first i processes. Assumes nothing.
+use mathlib.Core.Path.{◌≡◌}
+use Prim.Native.Nat.{◌-◌, ◌≤◌}
+use native.Mathlib.Omega.{arith}
+use lib.ListN.{length, get_or}
+use Rattle.laws.specs.Below.{fold}
+use Rattle.laws.proofs.Folds.{fold_none, fold_step, fold_end}
+use Rattle.run.specs.Report.{first_with, first_of}
+use Rattle.deciders.proofs.first_decider.Goals as goal
+
+pub loop-i-init : goal.loop-i-init
+loop-i-init c =
+    (omega arith, fold_none _ 0)
+
+pub loop-i-preserved : goal.loop-i-preserved
+loop-i-preserved c =
+    let l = c.loop-i in (omega arith, fold_step _ 0 _ _ _ l.invariant.1 c.first_with-first.ensures.found)
+
+pub returns : goal.returns
+unfolding first_of
+returns c =
+    record { found = let l = c.loop-i in fold_end _ 0 _ _ _ l.invariant.1 l.invariant.0 c.loop-i-test.false }

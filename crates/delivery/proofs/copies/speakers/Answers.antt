@@ -1,0 +1,29 @@
+-- `speakers` meets its contract: each turn counts one code. Assumes nothing.
+use Prim.Native.Nat.{◌-◌, ◌≤◌}
+use mathlib.Core.Bool.{not}
+use mathlib.Core.Path.{◌≡◌}
+use native.Mathlib.Omega.{arith}
+use borrow.Author.Rules.{rules}
+use lib.Dec.{eqb}
+use lib.ListN.{get_or}
+use Rattle.laws.specs.Below.{count}
+use Rattle.laws.proofs.Below.{count_none, count_step, count_end, count_room}
+use Rattle.sets.specs.Largest.{largest}
+use Rattle.member.specs.Saying.{nothing}
+use Rattle.delivery.proofs.copies.speakers.Goals as goal
+
+pub loop-j-init : goal.loop-j-init
+loop-j-init c =
+    (omega arith, count_none _, omega arith)
+
+pub overflow_add-speaking : goal.overflow_add-speaking
+overflow_add-speaking c =
+    let room = count_room _ _ _ _ c.loop-j.invariant.1 c.bit-speaking.ensures.counted in omega arith
+
+pub loop-j-preserved : goal.loop-j-preserved
+loop-j-preserved c =
+    let room = count_room _ _ _ _ c.loop-j.invariant.1 c.bit-speaking.ensures.counted in (omega arith, count_step _ _ _ _ c.loop-j.invariant.1 c.bit-speaking.ensures.counted, omega arith)
+
+pub returns : goal.returns
+returns c =
+    record { counted = let inv = c.loop-j.invariant in count_end _ _ _ _ inv.1 inv.0 c.loop-j-test.false }

@@ -1,0 +1,42 @@
+-- `completing_row` meets its contract: each turn enters one sender, and those past the end of the crash rounds come after. Assumes nothing.
+use Prim.Native.Nat.{◌-◌, ◌≤◌}
+use mathlib.Core.Bool.{cond}
+use mathlib.Core.Path.{◌≡◌, refl, sym, ◌∙◌}
+use native.Mathlib.Omega.{arith}
+use borrow.Author.Rules.{rules}
+use lib.ListN.{get_or, replicate}
+use Rattle.laws.specs.Filled.{Overwritten}
+use Rattle.laws.proofs.Overwritten.{over_start, over_more, over_at, over_so, over_all}
+use Rattle.sets.specs.Largest.{largest}
+use Rattle.member.specs.Saying.{nothing}
+use Rattle.run.specs.Run.{completes_round}
+use Rattle.delivery.proofs.Heard.{completing_code, completing_rest}
+use Rattle.delivery.proofs.rows.completing_row.Goals as goal
+
+pub loop-j-init : goal.loop-j-init
+loop-j-init c =
+    (omega arith, over_start c.zero_bytes-row.ensures.zeros)
+
+pub loop-j-preserved : goal.loop-j-preserved
+loop-j-preserved c =
+    let l = c.loop-j in (
+      omega arith,
+      over_more (omega arith) l.invariant.1 (c.heard_or_nothing.ensures.is ∙ completing_code _ _ _ c.completes.ensures.tested refl),
+    )
+
+pub with_rest-requires : goal.with_rest-requires
+with_rest-requires c =
+    let l = c.loop-j in
+    let end : l.j ≡ c.recorded-known.result = omega arith in
+    let over = over_all l.invariant.1 end in
+    record { size = omega arith; cut = (over_so over (λ k h. sym (over_at over k 0 h))).is }
+
+pub returns : goal.returns
+returns c =
+    record {
+      row = let l = c.loop-j in
+          let a = c.args in
+          let known = c.recorded-known in
+          let end : l.j ≡ known.result = omega arith in
+          completing_rest a.round a.n known.result a.crashes.now a.codes.now l.row known.ensures (over_all l.invariant.1 end) c.with_rest.ensures.whole;
+    }

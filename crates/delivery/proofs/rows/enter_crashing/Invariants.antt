@@ -1,0 +1,23 @@
+-- `enter_crashing` meets its contract: a sender that crashes in another round, or never, changes nothing, and else each turn changes one row. Assumes
+-- nothing.
+use Prim.Native.Nat.{ℕ, ◌-◌, ◌≤◌}
+use mathlib.Core.Bool.{Bool, true, false, cond}
+use mathlib.Core.List.{List, [], ◌∷◌}
+use mathlib.Core.Logic.{◌≢◌, ⊎_elim}
+use mathlib.Core.Path.{◌≡◌, refl, ◌∙◌, ap, ap₂}
+use native.Mathlib.Omega.{arith}
+use borrow.Author.Rules.{rules}
+use lib.ListN.{get_or, set}
+use Rattle.laws.specs.Below.{bit}
+use Rattle.laws.specs.Filled.{Overwritten}
+use Rattle.laws.proofs.Below.{bit_high}
+use Rattle.laws.proofs.Overwritten.{over_start, over_more, over_past, over_long, over_all}
+use Rattle.sets.specs.Sets.{names}
+use Rattle.member.specs.Saying.{nothing}
+use Rattle.delivery.proofs.rows.enter_crashing.Given as goal
+
+abbrev pub invariant-loop-i : goal.invariant-loop-i
+invariant-loop-i l = (l.i ≤ l.n) × Overwritten l.i (λ (k : ℕ). set (get_or l.initial.grid k []) l.j (cond (names (get_or l.reaches l.j 0) k) l.code nothing)) l.initial.grid l.grid
+
+abbrev pub decreases-loop-i : goal.decreases-loop-i
+decreases-loop-i l = l.n - l.i

@@ -1,0 +1,10 @@
+-- `play_all` ends: it plays rounds 1 to 4. Assumes nothing.
+use Prim.Native.Nat.{◌≤◌, ◌-◌}
+use borrow.Author.Rules.{rules}
+use Rattle.exchange.proofs.play_all.Given as goal
+
+abbrev pub invariant-loop-round : goal.invariant-loop-round
+invariant-loop-round l = l.round ≤ 5
+
+abbrev pub decreases-loop-round : goal.decreases-loop-round
+decreases-loop-round l = 5 - l.round

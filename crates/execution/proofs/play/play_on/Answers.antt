@@ -1,0 +1,101 @@
+-- `play_on` meets its contract: each turn plays one round (AllRounds.antt), and after a round in which nothing is sent nothing happens any more. Assumes
+-- nothing.
+use Prim.Native.Nat.{◌-◌}
+use mathlib.Core.Bool.{true}
+use mathlib.Core.Path.{◌≡◌, refl, sym, ◌∙◌}
+use native.Mathlib.Omega.{arith}
+use borrow.Author.Rules.{rules}
+use lib.ListN.{length}
+use Rattle.sets.specs.Largest.{largest}
+use Rattle.schedule.specs.Schedule.{schedule_of}
+use Rattle.schedule.proofs.Accepted.{question_accepted}
+use Rattle.run.specs.Protocol.{fcwfa}
+use Rattle.run.proofs.Theorem.{accepted_run}
+use Rattle.execution.specs.Calls.{calls}
+use Rattle.execution.proofs.AllRounds.{Between, Counted, nothing_counted, starts, said_at, codes_long, goes_on, sent_in, counts_on, ends_last, ends_silent}
+use Rattle.execution.proofs.play.play_on.Goals as goal
+
+pub loop-played-init : goal.loop-played-init
+loop-played-init c =
+    let a = c.args in
+    let s = schedule_of a.n a.t a.votes.now a.crashes.now a.reaches.now in
+    let pre = c.requires in
+    let ok = question_accepted s largest true pre.0 in
+    let opened = c.open_all-members.ensures in
+    (starts calls s ok.n_high pre.1.1 opened.0 c.zero_bytes-codes.ensures.zeros opened.1, nothing_counted calls s a.last, refl)
+
+pub overflow_cast-round : goal.overflow_cast-round
+overflow_cast-round c =
+    let a = c.args in
+    let s = schedule_of a.n a.t a.votes.now a.crashes.now a.reaches.now in
+    let pre = c.requires in
+    let ok = question_accepted s largest true pre.0 in
+    let n_high = ok.n_high in
+    let t_high = ok.rules.t_high in
+    let rounds = pre.1.0 in
+    omega arith
+
+pub shape_of-grid-then-sent-eq0 : goal.shape_of-grid-then-sent-eq0
+shape_of-grid-then-sent-eq0 c =
+    c.loop-played.invariant.2
+
+pub returns-then-sent-eq0 : goal.returns-then-sent-eq0
+returns-then-sent-eq0 c =
+    let a = c.args in
+    let s = schedule_of a.n a.t a.votes.now a.crashes.now a.reaches.now in
+    let pre = c.requires in
+    let ok = question_accepted s largest true pre.0 in
+    let promises = accepted_run s largest true pre.0 in
+    let at = c.loop-played in
+    let sent = sent_in calls s ok.n_high at.played at.invariant.0 c.message_count-sent.ensures.counted in record { played = ends_silent fcwfa s ok.n_high promises.own_answers pre.1.0 at.invariant.0.states at.invariant.1 promises.silence (omega arith) (sym sent ∙ c.if-sent-eq0.true); passed = refl }
+
+pub play_round-next-requires : goal.play_round-next-requires
+play_round-next-requires c =
+    let a = c.args in
+    let s = schedule_of a.n a.t a.votes.now a.crashes.now a.reaches.now in
+    let ok = question_accepted s largest true c.requires.accepted in
+    let at = c.loop-played in
+    let room = at.invariant.0.room in
+    let long = codes_long calls s ok.n_high at.played at.invariant.0 in
+    record { room = (omega arith, omega arith); said_before = said_at calls s ok.n_high at.played at.invariant.0 }
+
+pub overflow_add-messages : goal.overflow_add-messages
+overflow_add-messages c =
+    let a = c.args in
+    let s = schedule_of a.n a.t a.votes.now a.crashes.now a.reaches.now in
+    let pre = c.requires in
+    let ok = question_accepted s largest true pre.0 in
+    let n_high = ok.n_high in
+    let t_high = ok.rules.t_high in
+    let rounds = pre.1.0 in
+    let so_far = c.loop-played.invariant.1 in
+    let inside = so_far.inside in
+    let few = so_far.few in
+    let high = c.message_count-sent.ensures.few in
+    omega arith
+
+pub loop-played-preserved : goal.loop-played-preserved
+loop-played-preserved c =
+    let a = c.args in
+    let s = schedule_of a.n a.t a.votes.now a.crashes.now a.reaches.now in
+    let ok = question_accepted s largest true c.requires.accepted in
+    let at = c.loop-played in
+    let round = c.play_round-next.ensures in
+    let counted = c.message_count-sent.ensures in
+    let sent = sent_in calls s ok.n_high at.played at.invariant.0 counted.0 in (
+      goes_on calls s ok.n_high at.played at.invariant.0 round.0 round.1 (omega arith),
+      counts_on calls s at.invariant.1 (omega arith) sent counted.1,
+      (let kept = at.invariant.2 in omega arith),
+    )
+
+pub shape_of-grid : goal.shape_of-grid
+shape_of-grid c =
+    c.loop-played.invariant.2
+
+pub returns : goal.returns
+returns c =
+    let a = c.args in
+    let s = schedule_of a.n a.t a.votes.now a.crashes.now a.reaches.now in
+    let pre = c.requires in
+    let ok = question_accepted s largest true pre.0 in
+    let at = c.loop-played in record { played = ends_last fcwfa s ok.n_high (accepted_run s largest true pre.0).own_answers pre.1.0 at.invariant.0.states at.invariant.1 c.loop-played-test.false; passed = refl }

@@ -1,0 +1,46 @@
+-- `open_all` meets its contract: each turn opens one member and enters what it says. Assumes nothing.
+use Prim.Native.Nat.{◌+◌, ◌-◌, ◌≤◌}
+use mathlib.Core.Path.{◌≡◌, refl, ap, ◌∙◌}
+use native.Mathlib.Omega.{arith}
+use borrow.Author.Rules.{rules}
+use lib.ListN.{length, get_or, length-replicate}
+use Rattle.sets.specs.Largest.{largest, fitting}
+use Rattle.laws.specs.Filled.{Overwritten}
+use Rattle.laws.proofs.Overwritten.{over_start, over_more, over_long, over_all}
+use Rattle.run.specs.Protocol.{nobody}
+use Rattle.execution.specs.Calls.{calls}
+use Rattle.execution.specs.Rounds.{no_members}
+use Rattle.execution.proofs.OneRound.{all_opened, said_of}
+use Rattle.execution.proofs.round.open_all.Goals as goal
+
+pub loop-i-init : goal.loop-i-init
+loop-i-init c =
+    (c.fitting-size.ensures.fit, omega arith, over_start c.no_members-members.ensures.none, over_start refl, omega arith)
+
+pub bounds-codes-i : goal.bounds-codes-i
+bounds-codes-i c =
+    let long = over_long c.loop-i.invariant.3 (omega arith) in omega arith
+
+pub loop-i-preserved : goal.loop-i-preserved
+loop-i-preserved c =
+    let at = c.loop-i in
+    let inv = at.invariant in
+    let long = length-replicate largest nobody in
+    let opened = c.opened-first.ensures in
+    let state = opened.0 ∙ ap (calls.opening _ _ _) c.byte_at.ensures.entry in (
+      inv.0,
+      omega arith,
+      over_more (omega arith) inv.2 state,
+      over_more (omega arith) inv.3 (opened.1 ∙ ap calls.says state),
+      inv.4,
+    )
+
+pub shape_of-codes : goal.shape_of-codes
+shape_of-codes c =
+    over_long c.loop-i.invariant.3 (omega arith)
+
+pub returns : goal.returns
+returns c =
+    let a = c.args in
+    let at = c.loop-i in
+    let opens = all_opened calls a.n a.t a.votes.now at.invariant.0 (omega arith) at.invariant.2 in record { opened = opens; said = said_of calls (fitting a.n) _ opens (rw (← at.invariant.0) (over_all at.invariant.3 (omega arith))) }

@@ -1,0 +1,78 @@
+-- `play_round` meets its contract: each turn has one member hear the row that was delivered for it (OneRound.antt) and enters what it says next, and those
+-- after it are as they were, in the array and among the codes. Assumes nothing.
+use Prim.Native.Nat.{ℕ, ◌-◌, ◌≤◌}
+use mathlib.Core.List.{List, []}
+use mathlib.Core.Path.{◌≡◌, refl, sym, ap, ap₂, ◌∙◌}
+use native.Mathlib.Omega.{arith}
+use borrow.Author.Rules.{rules}
+use lib.ListN.{length, get_or, take}
+use lib.Seq.{length-take-le}
+use Rattle.sets.specs.Largest.{largest, fitting}
+use Rattle.laws.specs.Filled.{Overwritten}
+use Rattle.laws.proofs.Overwritten.{over_start, over_more, over_past}
+use Rattle.member.specs.declared.Member.{Member}
+use Rattle.run.specs.Protocol.{nobody}
+use Rattle.run.specs.Run.{state_at, state_after}
+use Rattle.execution.specs.Calls.{calls}
+use Rattle.execution.proofs.OneRound.{all_heard, plays_round, all_said}
+use Rattle.execution.proofs.round.play_round.Goals as goal
+
+abbrev heard_at : ℕ → List ℕ → List (List ℕ) → ℕ → List Member → ℕ → Member
+heard_at round crashes grid size members k = state_after calls round (get_or crashes k 0) (state_at members k) (take size (get_or grid k []))
+
+pub loop-i-init : goal.loop-i-init
+loop-i-init c =
+    (c.fitting-size.ensures.fit, omega arith, over_start refl, over_start refl, search rules, (let room = c.requires.room.1 in let same = c.fitting-size.ensures.fit in omega arith))
+
+pub bounds-grid-i : goal.bounds-grid-i
+bounds-grid-i c =
+    let room = c.requires.room.0 in
+    let kept = c.grid-1.given in
+    let same = c.loop-i.invariant.0 in
+    omega arith
+
+pub slice_bounds-next_turn-end : goal.slice_bounds-next_turn-end
+slice_bounds-next_turn-end c =
+    let long = c.row-in-loop-i-1.given.0 in sym (length-take-le _ _ (omega arith))
+
+-- the member and the code at place i are those that were given
+member_here : (c : tie.After-next-turn-arg invariant-loop decreases-loop)
+    → let l = c.before.before.before.before.before.before.before.loop in
+    state_at l.members l.i ≡ state_at c.before.before.before.before.before.before.before.before.before.before.before.before.before.before.before.args.t3 l.i
+member_here c = let l = c.before.before.before.before.before.before.before.loop in over_past l.invariant.2 l.i nobody (omega arith)
+
+pub next_turn-turn-requires : goal.next_turn-turn-requires
+next_turn-turn-requires c =
+    record {
+      said_before = let l = c.loop-i in
+          over_past l.invariant.3 l.i 0 (omega arith)
+          ∙ c.requires.said_before l.i (omega arith)
+          ∙ ap calls.says (sym (member_here c));
+    }
+
+pub loop-i-preserved : goal.loop-i-preserved
+loop-i-preserved c =
+    let a = c.args in
+    let size = c.fitting-size.result in
+    let at = c.loop-i in
+    let turn = c.next_turn-turn.ensures in
+    let state =
+    turn.0
+    ∙ ap₂ (λ (crash : ℕ) (m : Member). state_after calls a.round crash m (take size (get_or c.deliver.new.1.1.1.1.1.0 at.i [])))
+    c.byte_at.ensures.entry (member_here c.before.before)
+    in (
+      at.invariant.0,
+      omega arith,
+      over_more (omega arith) at.invariant.2 state,
+      over_more (omega arith) at.invariant.3 (turn.1 ∙ ap calls.says state),
+      at.invariant.4,
+      at.invariant.5,
+    )
+
+pub returns : goal.returns
+returns c =
+    let a = c.args in
+    let pre = c.requires in
+    let at = c.loop-i in
+    let delivered = c.deliver.ensures.delivered pre.0.0 in
+    let hears = all_heard calls a.n a.round a.crashes.now c.deliver.new.1.1.1.1.1.0 at.invariant.0 (omega arith) at.invariant.2 in record { played = plays_round calls (fitting a.n) a.round (λ j. get_or a.codes.now j 0) a.crashes.now a.reaches.now delivered pre.1 hears; said = all_said calls a.n a.round a.crashes.now c.deliver.new.1.1.1.1.1.0 at.invariant.0 (omega arith) hears at.invariant.3 }

@@ -1,0 +1,62 @@
+-- `by_own_row` meets its contract: the member hears the row of its own round (OwnRow.antt). Assumes nothing.
+use mathlib.Core.Path.{◌≡◌, refl, sym, ◌∙◌}
+use mathlib.Core.Logic.{◌≢◌}
+use mathlib.Core.Bool.{true}
+use Prim.Native.Nat.{suc, ◌-◌}
+use native.Mathlib.Omega.{arith}
+use borrow.Author.Rules.{rules}
+use lib.Seq.{length-take-le}
+use Rattle.sets.specs.Largest.{largest}
+use Rattle.schedule.specs.Schedule.{schedule_of}
+use Rattle.schedule.proofs.Accepted.{question_accepted}
+use Rattle.explanation.proofs.OwnRow.{left_before, own_explained}
+use Rattle.explanation.proofs.Whole.{alone}
+use Rattle.explanation.proofs.own.by_own_row.Goals as goal
+
+pub offset_bounds-members-place : goal.offset_bounds-members-place
+offset_bounds-members-place c =
+    let high = (question_accepted _ largest true c.requires.accepted).n_high in
+    let low = c.requires.process in
+    omega arith
+
+pub bounds-members-place : goal.bounds-members-place
+bounds-members-place c =
+    let high = (question_accepted _ largest true c.requires.accepted).n_high in
+    let low = c.requires.process in
+    omega arith
+
+pub offset_bounds-grid-place : goal.offset_bounds-grid-place
+offset_bounds-grid-place c =
+    let high = (question_accepted _ largest true c.requires.accepted).n_high in
+    let low = c.requires.process in
+    omega arith
+
+pub bounds-grid-place : goal.bounds-grid-place
+bounds-grid-place c =
+    let high = (question_accepted _ largest true c.requires.accepted).n_high in
+    let low = c.requires.process in
+    omega arith
+
+pub slice_bounds-explain-end : goal.slice_bounds-explain-end
+slice_bounds-explain-end c =
+    let high = (question_accepted _ largest true c.requires.accepted).n_high in
+    let long = c.row-2-1.given.0 in
+    sym (length-take-le _ _ (omega arith))
+
+pub returns : goal.returns
+returns c =
+    record {
+      explained = let a = c.args in
+          let s = schedule_of a.n a.t a.votes.now a.crashes.now a.reaches.now in
+          let passed = c.requires.accepted in
+          let low = c.requires.process in
+          let own = c.requires.own.0 in
+          let some : a.round ≢ 0 = c.requires.own.1 in
+          let r = a.round - 1 in
+          let in_round : a.round ≡ suc r = omega arith in
+          let ran = c.play_rounds-ran.ensures.ran in
+          let left = left_before s passed a.place low r (sym own ∙ in_round) r refl (alone s _ ran) in
+          let said = c.codes_of-codes.ensures.said in
+          let sent = c.deliver.ensures.delivered (omega arith) in
+          own_explained s passed a.place low r (sym own ∙ in_round) left said in_round sent refl refl c.explain.ensures.answered;
+    }

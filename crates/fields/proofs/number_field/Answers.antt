@@ -1,0 +1,79 @@
+-- `number_field` meets its contract: the first two bytes tell whether a number has one digit or two, and it ends after them. Assumes nothing.
+use mathlib.Core.Path.{◌≡◌, sym, ◌∙◌}
+use mathlib.Core.Bool.{true, false}
+use Prim.Native.Nat.{◌+◌, ◌-◌, ◌*◌, ◌≤◌}
+use native.Mathlib.Omega.{arith}
+use borrow.Author.Rules.{rules}
+use Rattle.laws.proofs.Test.{was_true, was_false}
+use Rattle.fields.specs.Decimal.{letter, is_digit}
+use Rattle.fields.specs.Fields.{ended, field_is}
+use Rattle.fields.proofs.Forms.{digit_within, number_none, number_one, number_zero, number_two}
+use Rattle.fields.proofs.number_field.Goals as goal
+use Rattle.fields.proofs.number_field.Goals.{Else-first-eq48, Else-not-is_digit, Else-not-is_digit-2}
+
+pub returns-then-not-is_digit : goal.returns-then-not-is_digit
+returns-then-not-is_digit c =
+    let a = c.args in
+    let first = c.byte_at-first in
+    let none : is_digit first.result ≡ false = was_false c.is_digit.ensures.tested c.if-not-is_digit.true in
+    record { read = sym (number_none a.end a.text.now first.result first.ensures none); within = tt }
+
+-- the first byte is a digit
+digit_first : (c : Else-not-is_digit) → is_digit c.byte_at-first.result ≡ true
+digit_first c = was_true c.is_digit.ensures.tested c.if-not-is_digit.false
+
+pub overflow_sub-first : goal.overflow_sub-first
+overflow_sub-first c =
+    omega (arith, digit_within _ (digit_first c.before.before.before))
+
+pub returns-then-not-is_digit-2 : goal.returns-then-not-is_digit-2
+returns-then-not-is_digit-2 c =
+    let a = c.args in
+    let first = c.byte_at-first in
+    let second = c.byte_at-second in
+    let alone : is_digit second.result ≡ false = was_false c.is_digit-2.ensures.tested c.if-not-is_digit-2.true in
+    let read : field_is a.text.now c.ended.result ≡ ended a.end a.text.now (first.result - letter 0) 1 = c.ended.ensures.read in
+    record { read = read ∙ sym (number_one a.end a.text.now first.result first.ensures second.result second.ensures (digit_first c.before.before.before.before) alone); within = c.ended.ensures.within }
+
+-- so is the second
+digit_second : (c : Else-not-is_digit-2) → is_digit c.byte_at-second.result ≡ true
+digit_second c = was_true c.is_digit-2.ensures.tested c.if-not-is_digit-2.false
+
+pub returns-then-first-eq48 : goal.returns-then-first-eq48
+returns-then-first-eq48 c =
+    let a = c.args in
+    let first = c.byte_at-first in
+    let second = c.byte_at-second in
+    let zero-first : first.result ≡ letter 0 = omega arith in
+    record { read = sym (number_zero a.end a.text.now first.result first.ensures second.result second.ensures (digit_first c.before.before.before.before) (digit_second c.before) zero-first); within = tt }
+
+-- both bytes as digits
+digits : (c : Else-first-eq48)
+    → let first = c.byte_at-first.result in
+    let second = c.byte_at-second.result in
+    ((letter 0 ≤ first) × (first ≤ letter 9)) × ((letter 0 ≤ second) × (second ≤ letter 9))
+digits c = (digit_within _ (digit_first c.before.before.before.before), digit_within _ (digit_second c.before))
+
+pub overflow_sub-first-2 : goal.overflow_sub-first-2
+overflow_sub-first-2 c =
+    omega (arith, digits c)
+
+pub overflow_mul-first : goal.overflow_mul-first
+overflow_mul-first c =
+    omega (arith, digits c)
+
+pub overflow_sub-second : goal.overflow_sub-second
+overflow_sub-second c =
+    omega (arith, digits c)
+
+pub overflow_add-first : goal.overflow_add-first
+overflow_add-first c =
+    omega (arith, digits c)
+
+pub returns : goal.returns
+returns c =
+    let a = c.args in
+    let first = c.byte_at-first in
+    let second = c.byte_at-second in
+    let read : field_is a.text.now c.ended-2.result ≡ ended a.end a.text.now (10 * (first.result - letter 0) + (second.result - letter 0)) 2 = c.ended-2.ensures.read in
+    record { read = read ∙ sym (number_two a.end a.text.now first.result first.ensures second.result second.ensures (digit_first c.before.before.before.before.before) (digit_second c.before.before) (λ z. omega arith)); within = c.ended-2.ensures.within }

@@ -1,0 +1,44 @@
+-- `pair_in` meets its contract: after i places each count is that of the first i codes. Assumes nothing.
+use Prim.Native.Nat.{◌+◌, ◌-◌, ◌≤◌}
+use mathlib.Core.Path.{◌≡◌, refl}
+use lib.Dec.{eqb, ltb}
+use lib.ListN.{length}
+use native.Mathlib.Omega.{arith}
+use borrow.Author.Rules.{rules}
+use Rattle.laws.proofs.Below.{count_none, count_step, count_room}
+use Rattle.hearing.proofs.Counted.{Counted, counted_all}
+use Rattle.hearing.proofs.codes.pair_in.Goals as goal
+
+pub loop-i-init : goal.loop-i-init
+loop-i-init c =
+    (refl, omega arith, record { first = count_none _; second = count_none _; third = count_none _ })
+
+pub overflow_add-lower : goal.overflow_add-lower
+overflow_add-lower c =
+    let l = c.loop-i in omega (arith, count_room _ _ _ _ l.invariant.2.first c.bit-lower.ensures.counted)
+
+pub overflow_add-upper : goal.overflow_add-upper
+overflow_add-upper c =
+    let l = c.loop-i in omega (arith, count_room _ _ _ _ l.invariant.2.second c.bit-upper.ensures.counted)
+
+pub overflow_add-above : goal.overflow_add-above
+overflow_add-above c =
+    let l = c.loop-i in omega (arith, count_room _ _ _ _ l.invariant.2.third c.bit-above.ensures.counted)
+
+pub loop-i-preserved : goal.loop-i-preserved
+loop-i-preserved c =
+    let k = c.loop-i.invariant.2 in (
+      c.loop-i.invariant.0,
+      omega arith,
+      record {
+        first = count_step _ _ _ _ k.first c.bit-lower.ensures.counted;
+        second = count_step _ _ _ _ k.second c.bit-upper.ensures.counted;
+        third = count_step _ _ _ _ k.third c.bit-above.ensures.counted;
+      },
+    )
+
+pub returns : goal.returns
+returns c =
+    {- LABELS lower upper above -}
+    let at = c.loop-i in
+    rw (← at.invariant.0) (counted_all _ _ _ _ _ _ _ _ at.invariant.2 at.invariant.1 c.loop-i-test.false)

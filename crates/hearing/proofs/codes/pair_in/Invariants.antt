@@ -1,0 +1,16 @@
+-- `pair_in` meets its contract: after i places each count is that of the first i codes. Assumes nothing.
+use Prim.Native.Nat.{◌+◌, ◌-◌, ◌≤◌}
+use mathlib.Core.Path.{◌≡◌, refl}
+use lib.Dec.{eqb, ltb}
+use lib.ListN.{length}
+use native.Mathlib.Omega.{arith}
+use borrow.Author.Rules.{rules}
+use Rattle.laws.proofs.Below.{count_none, count_step, count_room}
+use Rattle.hearing.proofs.Counted.{Counted, counted_all}
+use Rattle.hearing.proofs.codes.pair_in.Given as goal
+
+abbrev pub invariant-loop-i : goal.invariant-loop-i
+invariant-loop-i l = (l.next ≡ l.code + 1) × (l.i ≤ length l.row) × Counted l.row (λ c. eqb c l.code) (λ c. eqb c l.next) (λ c. ltb l.next c) l.i l.lower l.upper l.above
+
+abbrev pub decreases-loop-i : goal.decreases-loop-i
+decreases-loop-i l = length l.row - l.i

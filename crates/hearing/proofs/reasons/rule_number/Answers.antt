@@ -1,0 +1,36 @@
+-- `rule_number` meets its contract: each rule's number is the one that Numbered.antt gives. Assumes nothing.
+use native.Mathlib.Omega.{arith}
+use borrow.Author.Rules.{rules}
+use Rattle.member.proofs.Reasons.{sender_high}
+use Rattle.hearing.proofs.Numbered.{told_number, quiet_number, count_number, no_number}
+use Rattle.hearing.proofs.reasons.rule_number.Goals as goal
+
+pub overflow_add-result : goal.overflow_add-result
+overflow_add-result c =
+    let found = c.lowest_sender.ensures.found in
+    let high = sender_high c.args.row.now in
+    let short = c.requires.short in
+    omega arith
+
+pub overflow_cast-result : goal.overflow_cast-result
+overflow_cast-result c =
+    let found = c.lowest_sender.ensures.found in
+    let high = sender_high c.args.row.now in
+    let short = c.requires.short in
+    omega arith
+
+pub returns-in-Told : goal.returns-in-Told
+returns-in-Told c =
+    record { is = told_number _ _ c.enum_told-1.given.1 c.lowest_sender.ensures.found }
+
+pub returns-in-Quiet : goal.returns-in-Quiet
+returns-in-Quiet c =
+    record { is = quiet_number _ _ c.requires.counted c.enum_told-in-Quiet-1.given.1 }
+
+pub returns-in-RoundT : goal.returns-in-RoundT
+returns-in-RoundT c =
+    record { is = count_number _ _ c.requires.counted c.enum_told-in-RoundT-1.given.1 }
+
+pub returns-in_default : goal.returns-in_default
+returns-in_default c =
+    record { is = let a = c.args in no_number a.rule a.n a.row.now c.in_default.keys4 }

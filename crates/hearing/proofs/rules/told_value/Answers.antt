@@ -1,0 +1,15 @@
+-- `told_value` meets its contract. Assumes nothing.
+use native.Mathlib.Omega.{arith}
+use Rattle.member.specs.Hearing.{told_value}
+use borrow.Author.Tests.{lt-ltb, le-ltb}
+use Rattle.hearing.proofs.rules.told_value.Goals as goal
+
+pub returns-then-k-gt0 : goal.returns-then-k-gt0
+unfolding told_value
+returns-then-k-gt0 c =
+    record { is = let k = c.args.k in simp (lt-ltb 0 k.aborts (omega arith)) }
+
+pub returns-else-k-gt0 : goal.returns-else-k-gt0
+unfolding told_value
+returns-else-k-gt0 c =
+    record { is = let k = c.args.k in simp (le-ltb 0 k.aborts (omega arith)) }

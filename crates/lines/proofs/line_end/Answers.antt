@@ -1,0 +1,24 @@
+-- `line_end` meets its contract: the bytes from `at` to i are of the line, and what is left of it starts at i. Assumes nothing.
+use mathlib.Core.Path.{◌≡◌}
+use Prim.Native.Nat.{◌+◌, ◌-◌, ◌≤◌}
+use native.Mathlib.Omega.{arith}
+use lib.ListN.{length, drop}
+use Rattle.lines.specs.Lines.{line_length}
+use Rattle.lines.proofs.Parts.{length_at, length_past, length_end}
+use Rattle.lines.proofs.line_end.Goals as goal
+
+pub returns-then-text-i-eq-LF : goal.returns-then-text-i-eq-LF
+returns-then-text-i-eq-LF c =
+    {- LABELS ended within -}
+    let text = c.args.text.now in
+    omega (arith, length_at text c.loop-i.i (omega arith) (omega arith))
+
+pub loop-i-preserved : goal.loop-i-preserved
+loop-i-preserved c =
+    let text = c.args.text.now in
+    omega (arith, length_past text c.loop-i.i (omega arith) (λ e. omega arith))
+
+pub returns : goal.returns
+returns c =
+    {- LABELS ended within -}
+    omega (arith, length_end c.args.text.now c.loop-i.i (omega arith))

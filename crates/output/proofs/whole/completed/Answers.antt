@@ -1,0 +1,93 @@
+-- `completed` meets its contract: an accepted schedule is not refused, so the simulator gives the counts and tables of its report, and these are written
+-- into a buffer that is long enough. Assumes nothing.
+use mathlib.Core.Path.{◌≡◌, sym, ap, ◌∙◌}
+use mathlib.Core.List.{List}
+use Prim.Native.Nat.{ℕ, ◌^◌, ◌≤◌, ◌<◌}
+use native.Mathlib.Omega.{arith}
+use borrow.Author.Rules.{rules}
+use lib.ListN.{length, get_or}
+use Rattle.laws.specs.Answer.{accepted}
+use Rattle.laws.proofs.Answer.{not_accepted}
+use Rattle.sets.specs.Largest.{largest}
+use Rattle.schedule.specs.Schedule.{Schedule, schedule_of}
+use Rattle.run.specs.Protocol.{fcwfa}
+use Rattle.run.specs.Report.{report}
+use Rattle.simulator.specs.Answers.{simulated_is, counts_of, given_by}
+use Rattle.text.specs.Output.{report_text}
+use Rattle.output.specs.Answers.{output_is}
+use Rattle.report.specs.Shown.{are_decisions, shown}
+use Rattle.report.proofs.Decisions.{shown_all}
+use Rattle.buffer.proofs.Written.{writes_same}
+use Rattle.output.proofs.Buffer.{written_output}
+use Rattle.output.proofs.Lengths.{report_short}
+use Rattle.output.proofs.Given.{print_given, counts_given, table_given, n_small, decisions_long, rounds_long, all_decisions}
+use Rattle.output.proofs.whole.completed.Goals as goal
+use Rattle.output.proofs.whole.completed.Goals.{After-put_report-end, After-simulate-answer, In-Completed}
+
+-- the schedule that is run
+abbrev given : After-simulate-answer → Schedule
+given c =
+    let a = c.before.before.before.before.before.before.before.before.before.args in
+    schedule_of a.n a.t a.votes.now a.crashes.now a.reaches.now
+
+-- and the two tables that are lent for it
+abbrev lent_decisions : After-simulate-answer → List ℕ
+lent_decisions c = c.before.before.before.before.before.before.before.before.before.args.decisions.now
+
+abbrev lent_rounds : After-simulate-answer → List ℕ
+lent_rounds c = c.before.before.before.before.before.before.before.before.before.args.decided.now
+
+-- it is accepted, so the simulator gives the counts of its report
+counted : (c : After-simulate-answer) → simulated_is c.simulate-answer.result ≡ accepted (counts_of (report fcwfa (given c)))
+counted c = c.simulate-answer.ensures.simulated.answered ∙ counts_given largest (given c) (lent_decisions c) (lent_rounds c) c.requires.accepted fcwfa
+
+-- and its tables
+decided : (c : After-simulate-answer) → c.simulate-answer.new.1.1.1.1.1.0 ≡ (report fcwfa (given c)).decisions
+decided c = c.simulate-answer.ensures.simulated.decisions_given ∙ table_given largest (given c) (lent_decisions c) (lent_rounds c) c.requires.accepted _ (lent_decisions c)
+
+timed : (c : After-simulate-answer) → c.simulate-answer.new.1.1.1.1.1.1.0 ≡ (report fcwfa (given c)).rounds
+timed c = c.simulate-answer.ensures.simulated.rounds_given ∙ table_given largest (given c) (lent_decisions c) (lent_rounds c) c.requires.accepted _ (lent_rounds c)
+
+pub returns-in_default : goal.returns-in_default
+returns-in_default c =
+    {- LABELS output fits -}
+    absurd (not_accepted (sym (ap simulated_is c.enum_told-1.given.1) ∙ counted c.before.before.before.before.before.before))
+
+-- the counts are numbers of 64 bits
+of_64_bits : (c : In-Completed) → let k = c.answer-1.given.0.0 in (k.f < 2 ^ 64) × (k.first < 2 ^ 64) × (k.last < 2 ^ 64) × (k.messages < 2 ^ 64)
+of_64_bits c = (search rules, search rules, search rules, search rules)
+
+-- what is printed is the report
+-- what is given is shown, and is the report
+all_shown : (c : After-put_report-end) → let s = given c.before.before.before.before.before.before.before.before.before.before.before in let k = c.answer-1.given.0.0 in
+    shown s.t k c.simulate.new.1.1.1.1.1.0 c.simulate.new.1.1.1.1.1.1.0
+    ≡ report_text (length c.simulate.new.1.1.1.1.1.0) s.t (given_by k c.simulate.new.1.1.1.1.1.0 c.simulate.new.1.1.1.1.1.1.0)
+all_shown c =
+    let s = given c.before.before.before.before.before.before.before.before.before.before.before in
+    let pre = c.requires.accepted in
+    let long : length c.simulate.new.1.1.1.1.1.0 ≡ s.n = ap length (decided c.before.before.before.before.before.before.before.before.before.before.before) ∙ decisions_long fcwfa s in
+    let rounds : length c.simulate.new.1.1.1.1.1.1.0 ≡ s.n = ap length (timed c.before.before.before.before.before.before.before.before.before.before.before) ∙ rounds_long fcwfa s in
+    shown_all s.t _ _ _ (rounds ∙ sym long) (ap are_decisions (decided c.before.before.before.before.before.before.before.before.before.before.before) ∙ all_decisions s largest _ pre)
+
+same_text : (c : After-put_report-end) → let s = given c.before.before.before.before.before.before.before.before.before.before.before in let k = c.answer-1.given.0.0 in
+    report_text (length c.simulate.new.1.1.1.1.1.0) s.t (given_by k c.simulate.new.1.1.1.1.1.0 c.simulate.new.1.1.1.1.1.1.0)
+    ≡ report_text s.n s.t (report fcwfa s)
+same_text c =
+    let s = given c.before.before.before.before.before.before.before.before.before.before.before in
+    let pre = c.requires.accepted in
+    print_given (report fcwfa s) s.n s.t _ _ _ (ap length (decided c.before.before.before.before.before.before.before.before.before.before.before) ∙ decisions_long fcwfa s) (sym (ap simulated_is c.answer-1.given.1) ∙ counted c.before.before.before.before.before.before.before.before.before.before.before) (decided c.before.before.before.before.before.before.before.before.before.before.before) (timed c.before.before.before.before.before.before.before.before.before.before.before)
+
+pub returns : goal.returns
+returns c =
+    let s = given c.before.before.before.before.before.before.before.before.before.before.before.before in
+    let pre = c.requires.accepted in
+    let k = c.answer-1.given.0.0 in
+    let n : s.n ≤ largest = n_small s largest _ pre in
+    let long : length c.simulate.new.1.1.1.1.1.0 ≡ s.n = ap length (decided c.before.before.before.before.before.before.before.before.before.before.before.before) ∙ decisions_long fcwfa s in
+    let t : s.t < 2 ^ 64 = search rules in
+    let counts = of_64_bits c.before.before.before.before.before in
+    let rounds = c.simulate.new.1.1.1.1.1.1.0 in
+    let each-round : (i : ℕ) → get_or rounds i 0 < 2 ^ 64 = λ i. let b : get_or rounds i 0 < 256 = (c.slice_known-4-1.given i).fits in omega arith in
+    let w = written_output _ _ _ _ c.blank_output-bytes.ensures.zeros (writes_same (all_shown c.before) c.put_report-end.ensures.written)
+    (report_short _ s.t (given_by k _ rounds) (omega arith) t counts.0 counts.1 counts.2 counts.3 each-round) in
+    record { output = w.0 ∙ ap output_is (same_text c.before); fits = w.1 }

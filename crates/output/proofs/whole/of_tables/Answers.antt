@@ -1,0 +1,54 @@
+-- `of_tables` meets its contract: the parts that it lends are n long, and each branch writes what is wanted. Assumes nothing.
+use mathlib.Core.Path.{sym, ap, ◌∙◌}
+use borrow.Author.Rules.{rules}
+use lib.ListN.{take}
+use lib.Seq.{length-take-le}
+use Rattle.schedule.specs.Schedule.{schedule_of}
+use Rattle.output.specs.declared.Wanted.{Wanted}
+use Rattle.output.specs.Answers.{output_is, shown_of}
+use Rattle.output.proofs.whole.of_tables.Goals as goal
+
+pub slice_bounds-concluded-end : goal.slice_bounds-concluded-end
+slice_bounds-concluded-end c =
+    let a = c.args in sym (length-take-le a.n a.t4 (search rules))
+
+pub slice_bounds-concluded-end-in-Outcome : goal.slice_bounds-concluded-end-in-Outcome
+slice_bounds-concluded-end-in-Outcome c =
+    let a = c.args in sym (length-take-le a.n a.t5 (search rules))
+
+pub slice_bounds-concluded-end-in-Outcome-2 : goal.slice_bounds-concluded-end-in-Outcome-2
+slice_bounds-concluded-end-in-Outcome-2 c =
+    let a = c.args in sym (length-take-le a.n a.t6 (search rules))
+
+pub slice_bounds-explained-end : goal.slice_bounds-explained-end
+slice_bounds-explained-end c =
+    let a = c.args in sym (length-take-le a.n a.t4 (search rules))
+
+pub slice_bounds-explained-end-in-Reasons : goal.slice_bounds-explained-end-in-Reasons
+slice_bounds-explained-end-in-Reasons c =
+    let a = c.args in sym (length-take-le a.n a.t5 (search rules))
+
+pub slice_bounds-explained-end-in-Reasons-2 : goal.slice_bounds-explained-end-in-Reasons-2
+slice_bounds-explained-end-in-Reasons-2 c =
+    let a = c.args in sym (length-take-le a.n a.t6 (search rules))
+
+pub returns-in-Report : goal.returns-in-Report
+returns-in-Report c =
+    let a = c.args in
+    let s = schedule_of a.n a.t (take a.n a.t4) (take a.n a.t5) (take a.n a.t6) in
+    let report = c.report_of_tables.ensures in
+    record { output = report.0 ∙ ap (λ (w : Wanted). output_is (shown_of w s)) (sym c.enum_told-1.given.1); fits = report.1 }
+
+pub returns-in-Outcome : goal.returns-in-Outcome
+returns-in-Outcome c =
+    let a = c.args in
+    let s = schedule_of a.n a.t (take a.n a.t4) (take a.n a.t5) (take a.n a.t6) in
+    let outcome = c.concluded.ensures in
+    record { output = outcome.0 ∙ ap (λ (w : Wanted). output_is (shown_of w s)) (sym c.enum_told-in-Outcome-1.given.1); fits = outcome.1 }
+
+pub returns-in-Reasons : goal.returns-in-Reasons
+returns-in-Reasons c =
+    let a = c.args in
+    let s = schedule_of a.n a.t (take a.n a.t4) (take a.n a.t5) (take a.n a.t6) in
+    let reasons = c.explained.ensures in
+    record { output = reasons.0 ∙ ap (λ (w : Wanted). output_is (shown_of w s)) (sym c.enum_told-in-Reasons-1.given.1); fits = reasons.1 }

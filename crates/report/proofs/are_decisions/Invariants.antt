@@ -1,0 +1,19 @@
+-- `are_decisions` meets its contract: after i places it has counted the decisions among the first i. Assumes nothing.
+use mathlib.Core.Path.{◌≡◌}
+use mathlib.Core.Bool.{Bool}
+use mathlib.Core.List.{List}
+use Prim.Native.Nat.{ℕ, ◌≤◌, ◌-◌}
+use native.Mathlib.Omega.{arith}
+use borrow.Author.Rules.{rules}
+use lib.Dec.{leb}
+use lib.ListN.{length, get_or}
+use Rattle.laws.specs.Below.{count}
+use Rattle.laws.proofs.Below.{count_none, count_step, count_room, count_end}
+use Rattle.report.specs.Shown.{are_decisions}
+use Rattle.report.proofs.are_decisions.Given as goal
+
+abbrev pub invariant-loop-i : goal.invariant-loop-i
+invariant-loop-i l = (l.i ≤ length l.decisions) × (l.right ≡ count l.i (decision l.decisions))
+
+abbrev pub decreases-loop-i : goal.decreases-loop-i
+decreases-loop-i l = length l.decisions - l.i

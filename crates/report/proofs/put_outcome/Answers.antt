@@ -1,0 +1,17 @@
+-- `put_outcome` meets its contract: what is no decision is not written, and of any other the two lines are. Assumes nothing.
+use mathlib.Core.Path.{sym}
+use native.Mathlib.Omega.{arith}
+use borrow.Author.Rules.{rules}
+use Rattle.text.specs.Output.{outcome_text}
+use Rattle.buffer.proofs.Written.{writes_none, writes_same, writes_more}
+use Rattle.report.proofs.Decisions.{written_outcome_lem, no_outcome_written}
+use Rattle.report.proofs.put_outcome.Goals as goal
+
+pub returns-then-decision-gt2 : goal.returns-then-decision-gt2
+returns-then-decision-gt2 c =
+    record { written = writes_same (no_outcome_written _ (omega arith)) (writes_none _ _) }
+
+pub returns : goal.returns
+unfolding outcome_text
+returns c =
+    record { written = writes_same (sym (written_outcome_lem _ (omega arith))) (writes_more _ _ c.put-heading.ensures.written c.put_decided.ensures.written) }

@@ -1,0 +1,36 @@
+-- `put_report` meets its contract: tables that no run gives are not written, and of any others the lines are. Assumes nothing.
+use mathlib.Core.Path.{◌≡◌, sym}
+use mathlib.Core.Bool.{true}
+use native.Mathlib.Omega.{arith}
+use borrow.Author.Rules.{rules}
+use lib.ListN.{length}
+use Rattle.laws.proofs.Test.{was_false, was_true}
+use Rattle.buffer.proofs.Written.{writes_none, writes_same}
+use Rattle.report.specs.Shown.{are_decisions}
+use Rattle.report.proofs.Decisions.{shown_all, shown_lengths, shown_none}
+use Rattle.report.proofs.put_report.Goals as goal
+use Rattle.report.proofs.put_report.Goals.{Else-decided-decisions, Else-not-are_decisions}
+
+pub returns-then-decided-decisions : goal.returns-then-decided-decisions
+returns-then-decided-decisions c =
+    record { written = writes_same (shown_lengths _ _ _ _ (λ e. omega arith)) (writes_none _ _) }
+
+-- the tables are of one length
+one_length : (c : Else-decided-decisions) → let a = c.args in length a.decided.now ≡ length a.decisions.now
+one_length c = omega arith
+
+pub returns-then-not-are_decisions : goal.returns-then-not-are_decisions
+returns-then-not-are_decisions c =
+    record { written = writes_same (shown_none _ _ _ _ (one_length c.before.before) (was_false c.are_decisions.ensures.tested c.if-not-are_decisions.true)) (writes_none _ _) }
+
+-- and hold decisions
+right : (c : Else-not-are_decisions) → are_decisions c.args.decisions.now ≡ true
+right c = was_true c.are_decisions.ensures.tested c.if-not-are_decisions.false
+
+pub put_lines-requires : goal.put_lines-requires
+put_lines-requires c =
+    record { size = one_length c.before.before.before; values = right c.before }
+
+pub returns : goal.returns
+returns c =
+    record { written = writes_same (sym (shown_all _ _ _ _ (one_length c.before.before.before.before.before.before) (right c.before.before.before.before))) c.put_lines.ensures.written }

@@ -1,0 +1,18 @@
+-- `put_processes` meets its contract: after i processes their lines are written. Assumes nothing.
+use mathlib.Core.Path.{◌≡◌, refl, ap}
+use mathlib.Core.List.{List}
+use Prim.Native.Nat.{ℕ, ◌-◌, ◌≤◌}
+use native.Mathlib.Omega.{arith}
+use borrow.Author.Rules.{rules}
+use lib.ListN.{length, get_or}
+use Rattle.text.specs.Written.{each_line, process_line, process_lines}
+use Rattle.text.proofs.Lines.{no_lines, one_more_line}
+use Rattle.buffer.specs.Buffer.{Writes}
+use Rattle.buffer.proofs.Written.{writes_none, writes_same, writes_more}
+use Rattle.writer.proofs.processes.put_processes.Given as goal
+
+abbrev pub invariant-loop-i : goal.invariant-loop-i
+invariant-loop-i l = (l.i ≤ l.n) × (length l.buffer ≡ length l.initial.buffer) × Writes l.initial.buffer l.at l.buffer l.next (lines l.n l.votes l.crashes l.reaches l.i)
+
+abbrev pub decreases-loop-i : goal.decreases-loop-i
+decreases-loop-i l = l.n - l.i
