@@ -20,8 +20,8 @@ asked c =
 
 pub returns-then-number-ne0 : goal.returns-then-number-ne0
 returns-then-number-ne0 c =
-    record { answered = refused_by _ _ _ (asked c.before) c.if-number-ne0.true }
+    record { answered = refused_by _ _ _ (asked (goal.at.returns-then-number-ne0 c).After-question-number) c.if-number-ne0.true }
 
 pub returns : goal.returns
 returns c =
-    record { answered = accepted_by _ _ _ (asked c.before) c.if-number-ne0.false }
+    record { answered = accepted_by _ _ _ (asked (goal.at.returns c).After-question-number) c.if-number-ne0.false }

@@ -34,8 +34,8 @@ answers c = let a = c.before.before.before.before.before.args in answers_of a.n 
 pub returns-then-not-are_of_size : goal.returns-then-not-are_of_size
 returns-then-not-are_of_size c =
     record {
-      asked = let h3 = and_no_left (tables_long (given c.before.before)) (answers c.before.before) (was_false c.are_of_size.ensures.tested c.if-not-are_of_size.true) in
-          number_3 (given c.before.before) _ _ _ c.size_question-sizes.ensures.asked c.if-sizes-ne0.false h3;
+      asked = let h3 = and_no_left (tables_long (given (goal.at.returns-then-not-are_of_size c).Else-sizes-ne0)) (answers (goal.at.returns-then-not-are_of_size c).Else-sizes-ne0) (was_false c.are_of_size.ensures.tested c.if-not-are_of_size.true) in
+          number_3 (given (goal.at.returns-then-not-are_of_size c).Else-sizes-ne0) _ _ _ c.size_question-sizes.ensures.asked c.if-sizes-ne0.false h3;
     }
 
 -- the three input tables are n long
@@ -52,8 +52,8 @@ by_answers c = and_goes_on (tables_long (given c.before.before)) (answers c.befo
 pub returns-then-not-are_answers_long : goal.returns-then-not-are_answers_long
 returns-then-not-are_answers_long c =
     record {
-      asked = let h3 = sym (by_answers c.before.before) ∙ was_false c.are_answers_long.ensures.tested c.if-not-are_answers_long.true in
-          number_3 (given c.before.before.before.before) _ _ _ c.size_question-sizes.ensures.asked c.if-sizes-ne0.false h3;
+      asked = let h3 = sym (by_answers (goal.at.returns-then-not-are_answers_long c).Else-not-are_of_size) ∙ was_false c.are_answers_long.ensures.tested c.if-not-are_answers_long.true in
+          number_3 (given (goal.at.returns-then-not-are_answers_long c).Else-sizes-ne0) _ _ _ c.size_question-sizes.ensures.asked c.if-sizes-ne0.false h3;
     }
 
 -- question 3 is passed
@@ -62,11 +62,11 @@ all_long c = sym (by_answers c.before.before) ∙ was_true c.are_answers_long.en
 
 pub processes_question-number-requires : goal.processes_question-number-requires
 processes_question-number-requires c =
-    record { long = lengths c.before.before }
+    record { long = lengths (goal.at.processes_question-number-requires c).Else-not-are_of_size }
 
 pub returns-then-number-ne0 : goal.returns-then-number-ne0
 returns-then-number-ne0 c =
-    record { asked = number_of_process (given c.before.before.before.before.before.before) _ _ _ c.size_question-sizes.ensures.asked c.if-sizes-ne0.false (all_long c.before.before) _ c.processes_question-number.ensures.asked c.if-number-ne0.true }
+    record { asked = number_of_process (given (goal.at.returns-then-number-ne0 c).Else-sizes-ne0) _ _ _ c.size_question-sizes.ensures.asked c.if-sizes-ne0.false (all_long (goal.at.returns-then-number-ne0 c).Else-not-are_answers_long) _ c.processes_question-number.ensures.asked c.if-number-ne0.true }
 
 -- past the first six questions; the table of crash rounds is n long, so the count answers question 7
 up_to_7 : (c : After-crash_count-counted) → question (given c.before.before.before.before.before.before.before) largest (answers c.before.before.before.before.before.before.before) ≡ ask (leb c.crash_count-counted.result.count (given c.before.before.before.before.before.before.before).t) 7 0
@@ -84,14 +84,14 @@ pub returns-then-t-counted : goal.returns-then-t-counted
 unfolding ask
 returns-then-t-counted c =
     record {
-      asked = let t = (given c.before.before.before.before.before.before.before.before.before).t in
-          rw (up_to_7 c.before.before, lt-leb c.crash_count-counted.result.count t (omega arith));
+      asked = let t = (given (goal.at.returns-then-t-counted c).Else-sizes-ne0).t in
+          rw (up_to_7 (goal.at.returns-then-t-counted c).After-crash_count-counted, lt-leb c.crash_count-counted.result.count t (omega arith));
     }
 
 pub returns : goal.returns
 unfolding ask
 returns c =
     record {
-      asked = let t = (given c.before.before.before.before.before.before.before.before.before).t in
-          rw (up_to_7 c.before.before, le-leb c.crash_count-counted.result.count t (omega arith));
+      asked = let t = (given (goal.at.returns c).Else-sizes-ne0).t in
+          rw (up_to_7 (goal.at.returns c).After-crash_count-counted, le-leb c.crash_count-counted.result.count t (omega arith));
     }

@@ -5,5 +5,5 @@ use mathlib.Core.Path.{◌∙◌, sym, ap}
 use Rattle.cases.proofs.is_case.Goals as goal
 
 pub returns : goal.returns
-returns c e =
-    record { before_the_end = ltb-true _ _ (sym (ap (λ r. r.found) c.case_at-entry.ensures.handed_out.entry) ∙ e) }
+returns c =
+    record { before_the_end = λ e. ltb-true _ _ (sym (ap (λ r. r.found) c.case_at-entry.ensures.handed_out.entry) ∙ e) }

@@ -14,8 +14,8 @@ inside c = let w = writes_inside c.put_report-end.ensures.written zero-le in let
 
 pub slice_bounds-bytes-end : goal.slice_bounds-bytes-end
 slice_bounds-bytes-end c =
-    inside c.before
+    inside (goal.at.slice_bounds-bytes-end c).After-put_report-end
 
 pub slice_bounds-print-end : goal.slice_bounds-print-end
 slice_bounds-print-end c =
-    sym (length-take-le _ _ (inside c.before.before))
+    sym (length-take-le _ _ (inside (goal.at.slice_bounds-print-end c).After-put_report-end))

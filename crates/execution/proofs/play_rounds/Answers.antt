@@ -27,5 +27,5 @@ returns c =
       ran = let a = c.args in
           let s = schedule_of a.n a.t a.votes.now a.crashes.now a.reaches.now in
           let played = c.play.ensures in
-          accepted_leaves fcwfa s _ (min a.last (a.t + 1)) c.question-question.ensures.asked c.if-question-ne0.false _ c.end_round.ensures.less played.0 played.1;
+          accepted_leaves fcwfa s _ (min a.last (a.t + 1)) c.question-question.ensures.asked c.if-question-ne0.false _ c.end_round.ensures.less played.played played.passed;
     }

@@ -20,15 +20,15 @@ asked c =
 
 pub returns-then-question-ne0 : goal.returns-then-question-ne0
 returns-then-question-ne0 c =
-    record { decided = refused_decision fcwfa _ (asked c.before.before) c.if-question-ne0.true c.no_member-none.ensures.none }
+    record { decided = refused_decision fcwfa _ (asked (goal.at.returns-then-question-ne0 c).After-question-question) c.if-question-ne0.true c.no_member-none.ensures.none }
 
 pub decide-requires : goal.decide-requires
 decide-requires c =
-    record { accepted = sym (asked c.before) ∙ c.if-question-ne0.false }
+    record { accepted = sym (asked (goal.at.decide-requires c).After-question-question) ∙ c.if-question-ne0.false }
 
 pub returns : goal.returns
 returns c =
     record {
       decided = let decided = c.decide.ensures in
-          first_decision fcwfa _ (asked c.before.before) _ c.if-question-ne0.false decided.0 decided.1;
+          first_decision fcwfa _ (asked (goal.at.returns c).After-question-question) _ c.if-question-ne0.false decided.decided decided.passed;
     }

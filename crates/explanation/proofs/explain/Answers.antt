@@ -41,16 +41,16 @@ overflow_sub-place c =
 
 pub offset_bounds-members-place : goal.offset_bounds-members-place
 offset_bounds-members-place c =
-    let l = (low c.before).1 in let high = (question_accepted _ largest true (accepts c.before)).n_high in omega arith
+    let l = (low (goal.at.offset_bounds-members-place c).Else-not-is_within).1 in let high = (question_accepted _ largest true (accepts (goal.at.offset_bounds-members-place c).Else-not-is_within)).n_high in omega arith
 
 pub bounds-members-place : goal.bounds-members-place
 bounds-members-place c =
-    let l = (low c.before).1 in let high = (question_accepted _ largest true (accepts c.before)).n_high in omega arith
+    let l = (low (goal.at.bounds-members-place c).Else-not-is_within).1 in let high = (question_accepted _ largest true (accepts (goal.at.bounds-members-place c).Else-not-is_within)).n_high in omega arith
 
 pub bounds-crashes-place : goal.bounds-crashes-place
 bounds-crashes-place c =
-    let l = (low c.before.before.before.before).1 in
-    let long = (question_accepted _ largest true (accepts c.before.before.before.before)).crashes_long in
+    let l = (low (goal.at.bounds-crashes-place c).Else-not-is_within).1 in
+    let long = (question_accepted _ largest true (accepts (goal.at.bounds-crashes-place c).Else-not-is_within)).crashes_long in
     omega arith
 
 pub returns-then-round-eq0 : goal.returns-then-round-eq0
@@ -58,17 +58,17 @@ returns-then-round-eq0 c =
     record {
       explained = let left = c.play_rounds-ran.ensures.ran in
           let yes? = c.if-question-ne0.false in
-          let own = own_round_lem _ _ left yes? (inside c.before.before.before.before) (low c.before.before.before.before).1 refl in
-          explains _ _ left yes? (inside c.before.before.before.before) (low c.before.before.before.before).1 _
-          (ap (λ (w : Reason). accepted w) (crash_round _ _ left yes? (inside c.before.before.before.before) (low c.before.before.before.before).1 refl (sym own ∙ c.if-round-eq0.true)));
+          let own = own_round_lem _ _ left yes? (inside (goal.at.returns-then-round-eq0 c).Else-not-is_within) (low (goal.at.returns-then-round-eq0 c).Else-not-is_within).1 refl in
+          explains _ _ left yes? (inside (goal.at.returns-then-round-eq0 c).Else-not-is_within) (low (goal.at.returns-then-round-eq0 c).Else-not-is_within).1 _
+          (ap (λ (w : Reason). accepted w) (crash_round _ _ left yes? (inside (goal.at.returns-then-round-eq0 c).Else-not-is_within) (low (goal.at.returns-then-round-eq0 c).Else-not-is_within).1 refl (sym own ∙ c.if-round-eq0.true)));
     }
 
 pub by_own_row-requires : goal.by_own_row-requires
 by_own_row-requires c =
     let left = c.play_rounds-ran.ensures.ran in
     let yes? = c.if-question-ne0.false in
-    record { accepted = accepts c.before.before.before; process = (low c.before.before.before).1; own = (own_round_lem _ _ left yes? (inside c.before.before.before) (low c.before.before.before).1 refl, c.if-round-eq0.false) }
+    record { accepted = accepts (goal.at.by_own_row-requires c).Else-not-is_within; process = (low (goal.at.by_own_row-requires c).Else-not-is_within).1; own = (own_round_lem _ _ left yes? (inside (goal.at.by_own_row-requires c).Else-not-is_within) (low (goal.at.by_own_row-requires c).Else-not-is_within).1 refl, c.if-round-eq0.false) }
 
 pub returns : goal.returns
 returns c =
-    record { explained = explains _ _ c.play_rounds-ran.ensures.ran c.if-question-ne0.false (inside c.before.before.before.before) (low c.before.before.before.before).1 _ c.by_own_row.ensures.explained }
+    record { explained = explains _ _ c.play_rounds-ran.ensures.ran c.if-question-ne0.false (inside (goal.at.returns c).Else-not-is_within) (low (goal.at.returns c).Else-not-is_within).1 _ c.by_own_row.ensures.explained }

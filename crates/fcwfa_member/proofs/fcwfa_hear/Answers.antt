@@ -13,7 +13,7 @@ returns-in-Moved c =
     let a = c.args in
     let given =
     answer_given _ _ _ state_bytes _
-    (ap heard_is (sym c.answer-1.given.1) ∙ c.hear-answer.ensures.answered ∙ ap (λ m. hear_answer largest m a.row.now) c.state_in.ensures.is) in
+    (ap heard_is (sym c.in-Moved.is) ∙ c.hear-answer.ensures.answered ∙ ap (λ m. hear_answer largest m a.row.now) c.state_in.ensures.is) in
     record { number = given.0; state_after = c.state_bytes.ensures.are ∙ given.1 }
 
 pub returns-in-Refused : goal.returns-in-Refused
@@ -22,4 +22,4 @@ returns-in-Refused c =
     {- LABELS number state_after -}
     let a = c.args in
     answer_kept _ _ _ state_bytes _
-    (ap heard_is (sym c.answer-in-Refused-1.given.1) ∙ c.hear-answer.ensures.answered ∙ ap (λ m. hear_answer largest m a.row.now) c.state_in.ensures.is)
+    (ap heard_is (sym c.in-Refused.is) ∙ c.hear-answer.ensures.answered ∙ ap (λ m. hear_answer largest m a.row.now) c.state_in.ensures.is)

@@ -9,11 +9,11 @@ use Rattle.fcwfa_member.proofs.fcwfa_open.Goals as goal
 pub returns-in-Started : goal.returns-in-Started
 unfolding open_answer
 returns-in-Started c =
-    let given = answer_given _ _ tt state_bytes _ (ap opened_is (sym c.answer-1.given.1) ∙ c.before.before.before.before.«open».ensures) in
+    let given = answer_given _ _ tt state_bytes _ (ap opened_is (sym c.in-Started.is) ∙ c.before.before.before.before.«open».ensures) in
     record { number = given.0; state_after = c.state_bytes.ensures.are ∙ given.1 }
 
 pub returns-in-Refused : goal.returns-in-Refused
 unfolding open_answer
 returns-in-Refused c =
     {- LABELS number state_after -}
-    answer_kept _ _ tt state_bytes _ (ap opened_is (sym c.answer-in-Refused-1.given.1) ∙ c.before.before.before.«open».ensures)
+    answer_kept _ _ tt state_bytes _ (ap opened_is (sym c.in-Refused.is) ∙ c.before.before.before.«open».ensures)

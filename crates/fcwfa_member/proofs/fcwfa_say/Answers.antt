@@ -11,11 +11,11 @@ unfolding say_answer
 returns-in-Code c =
     {- LABELS number code_after -}
     answer_given _ _ tt (λ code. code) _
-    (ap said_is (sym c.answer-1.given.1) ∙ c.say-answer.ensures.answered ∙ ap (say_answer largest) c.state_in.ensures.is)
+    (ap said_is (sym c.in-Code.is) ∙ c.say-answer.ensures.answered ∙ ap (say_answer largest) c.state_in.ensures.is)
 
 pub returns-in-Refused : goal.returns-in-Refused
 unfolding say_answer
 returns-in-Refused c =
     {- LABELS number code_after -}
     answer_kept _ _ tt (λ code. code) _
-    (ap said_is (sym c.answer-in-Refused-1.given.1) ∙ c.say-answer.ensures.answered ∙ ap (say_answer largest) c.state_in.ensures.is)
+    (ap said_is (sym c.in-Refused.is) ∙ c.say-answer.ensures.answered ∙ ap (say_answer largest) c.state_in.ensures.is)

@@ -12,7 +12,7 @@ unfolding outcome_answer
 returns-in-Decided c =
     record {
       concluded = let concluded = c.conclude-answer.ensures.concluded in
-          let decided = ap concluded_is c.answer-1.given.1 in
+          let decided = ap concluded_is c.in-Decided.is in
           let given = answer_given _ _ tt outcome_numbers _ (sym decided ∙ concluded.answered) in
           record { number_is = given.0; outcome_given = given.1; promises = decided_keeps _ concluded.promises decided refl };
     }
@@ -21,7 +21,7 @@ pub returns-in-Refused : goal.returns-in-Refused
 unfolding outcome_answer
 returns-in-Refused c =
     record {
-      concluded = let refusal = sym (ap concluded_is c.answer-in-Refused-1.given.1) ∙ c.conclude-answer.ensures.concluded.answered in
+      concluded = let refusal = sym (ap concluded_is c.in-Refused.is) ∙ c.conclude-answer.ensures.concluded.answered in
           let number = refused_is _ _ tt refusal in
           let kept = answer_kept _ _ tt outcome_numbers _ refusal in
           record { number_is = kept.0; outcome_given = kept.1; promises = refused_outcome _ (λ e. number.1 (sym number.0 ∙ e)) };

@@ -6,4 +6,4 @@ use Rattle.fcwfa_simulator.proofs.fcwfa_count_crashes.Goals as goal
 
 pub returns : goal.returns
 returns c =
-    let found = c.crash_count-found.ensures in record { number = refl; counted_after = λ i. found.0 i ∷ found.1 i ∷ [] }
+    let found = c.crash_count-found.ensures in record { number = refl; counted_after = λ i. found.counted i ∷ found.looked_at i ∷ [] }

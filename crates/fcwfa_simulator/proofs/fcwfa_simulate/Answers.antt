@@ -12,7 +12,7 @@ unfolding simulate_answer
 returns-in-Completed c =
     record {
       simulated = let run = c.simulate-answer.ensures.simulated in
-          let completed = ap simulated_is c.answer-1.given.1 in
+          let completed = ap simulated_is c.in-Completed.is in
           let given = answer_given _ _ tt counts_numbers _ (sym completed ∙ run.answered) in
           record {
             number_is = given.0;
@@ -28,7 +28,7 @@ unfolding simulate_answer
 returns-in-Refused c =
     record {
       simulated = let run = c.simulate-answer.ensures.simulated in
-          let refusal = sym (ap simulated_is c.answer-in-Refused-1.given.1) ∙ run.answered in
+          let refusal = sym (ap simulated_is c.in-Refused.is) ∙ run.answered in
           let number = refused_is _ _ tt refusal in
           let kept = answer_kept _ _ tt counts_numbers _ refusal in
           record {

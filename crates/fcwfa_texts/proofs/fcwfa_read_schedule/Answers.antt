@@ -12,7 +12,7 @@ pub returns-in-Read : goal.returns-in-Read
 returns-in-Read c =
     record {
       tables_read = let lent = c.args.read.now in
-          let given = sym (ap reading_is c.answer-1.given.1) ∙ c.read-answer.ensures.read.answered in
+          let given = sym (ap reading_is c.in-Read.is) ∙ c.read-answer.ensures.read.answered in
           record {
             number_is = ap number_of given;
             votes_read = c.read-answer.ensures.read.votes_read;
@@ -26,7 +26,7 @@ pub returns-in-Refused : goal.returns-in-Refused
 returns-in-Refused c =
     record {
       tables_read = let lent = c.args.read.now in
-          let given = sym (ap reading_is c.answer-in-Refused-1.given.1) ∙ c.read-answer.ensures.read.answered in
+          let given = sym (ap reading_is c.in-Refused.is) ∙ c.read-answer.ensures.read.answered in
           record {
             number_is = ap number_of given;
             votes_read = c.read-answer.ensures.read.votes_read;

@@ -11,7 +11,7 @@ unfolding write_answer
 returns-in-Written c =
     record {
       written = let lent = c.args.used.now in
-          let given = answer_given _ _ tt (λ (k : ℕ). k) lent (sym (ap writing_is c.answer-1.given.1) ∙ c.write-answer.ensures.written.answered) in
+          let given = answer_given _ _ tt (λ (k : ℕ). k) lent (sym (ap writing_is c.in-Written.is) ∙ c.write-answer.ensures.written.answered) in
           record { number_is = given.0; text_written = c.write-answer.ensures.written.text_written; used_given = given.1 };
     }
 
@@ -20,6 +20,6 @@ unfolding write_answer
 returns-in-Refused c =
     record {
       written = let lent = c.args.used.now in
-          let given = answer_kept _ _ tt (λ (k : ℕ). k) lent (sym (ap writing_is c.answer-in-Refused-1.given.1) ∙ c.write-answer.ensures.written.answered) in
+          let given = answer_kept _ _ tt (λ (k : ℕ). k) lent (sym (ap writing_is c.in-Refused.is) ∙ c.write-answer.ensures.written.answered) in
           record { number_is = given.0; text_written = c.write-answer.ensures.written.text_written; used_given = given.1 };
     }

@@ -15,8 +15,8 @@ unfolding why_answer
 returns-in-Because c =
     record {
       explained = let explained = c.explain-answer.ensures.explained in
-          let reason = c.answer-1.given.0.0 in
-          let because = ap explained_is c.answer-1.given.1 in
+          let reason = c.in-Because.reason in
+          let because = ap explained_is c.in-Because.is in
           let numbers = ap (λ (kind : ℕ). kind ∷ reason.number ∷ []) c.kind.ensures.is in
           let given = answer_given _ _ tt reason_numbers _ (sym because ∙ explained.answered) in
           record { number_is = given.0; why_given = numbers ∙ given.1; promises = because_keeps _ _ explained.promises because numbers };
@@ -26,7 +26,7 @@ pub returns-in-Refused : goal.returns-in-Refused
 unfolding why_answer
 returns-in-Refused c =
     record {
-      explained = let refusal = sym (ap explained_is c.answer-in-Refused-1.given.1) ∙ c.explain-answer.ensures.explained.answered in
+      explained = let refusal = sym (ap explained_is c.in-Refused.is) ∙ c.explain-answer.ensures.explained.answered in
           let number = refused_is _ _ tt refusal in
           let kept = answer_kept _ _ tt reason_numbers _ refusal in
           record { number_is = kept.0; why_given = kept.1; promises = refused_reason _ _ (λ e. number.1 (sym number.0 ∙ e)) };

@@ -31,4 +31,4 @@ returns c =
     let a = c.args in
     let first = c.byte_at-first in
     let read : field_is a.text.now c.ended.result ≡ ended a.end a.text.now (first.result - letter 0) 1 = c.ended.ensures.read in
-    record { read = read ∙ sym (digit_one a.end a.text.now first.result first.ensures (digit c.before)); within = c.ended.ensures.within }
+    record { read = read ∙ sym (digit_one a.end a.text.now first.result first.ensures (digit (goal.at.returns c).Else-not-is_digit)); within = c.ended.ensures.within }

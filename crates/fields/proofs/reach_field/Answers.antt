@@ -39,7 +39,7 @@ pub returns-then-not-has_byte : goal.returns-then-not-has_byte
 returns-then-not-has_byte c =
     let a = c.args in
     let not_there : has_byte a.end a.text.now a.n ≡ false = was_false c.has_byte.ensures.tested c.if-not-has_byte.true in
-    record { read = sym (all_right c.before.before ∙ ended_not a.end a.text.now _ a.n not_there); within = tt }
+    record { read = sym (all_right (goal.at.returns-then-not-has_byte c).Else-letter_count-n ∙ ended_not a.end a.text.now _ a.n not_there); within = tt }
 
 -- the end stands at its place
 there : (c : Else-not-has_byte) → let a = c.args in has_byte a.end a.text.now a.n ≡ true
@@ -53,4 +53,4 @@ reach_value-requires c =
 pub returns : goal.returns
 returns c =
     let a = c.args in
-    let there = there c.before in record { read = ap (λ (reach : ℕ). found reach (drop (a.n + 1) a.text.now)) c.reach_value.ensures.summed ∙ sym (all_right c.before.before.before ∙ ended_is a.end a.text.now _ a.n there); within = omega (arith, byte_within _ _ _ there) }
+    let there = there (goal.at.returns c).Else-not-has_byte in record { read = ap (λ (reach : ℕ). found reach (drop (a.n + 1) a.text.now)) c.reach_value.ensures.summed ∙ sym (all_right (goal.at.returns c).Else-letter_count-n ∙ ended_is a.end a.text.now _ a.n there); within = omega (arith, byte_within _ _ _ there) }

@@ -21,7 +21,7 @@ use Rattle.forms.specs.Answers.{value_of, heading_is, sizes_is}
 use Rattle.forms.proofs.LineForms.{not_found, is_found_lem, found_value}
 use Rattle.forms.proofs.InOrder.{head_8, head_1, head_2, head_sizes, head_3, head_passed}
 use Rattle.forms.proofs.read_head.Goals as goal
-use Rattle.forms.proofs.read_head.Goals.{After-read_heading-2, After-read_sizes, After-size_question-number, Else-number-ne0, Else-text-gt-LONGEST, In-Heading, In-Sized-2}
+use Rattle.forms.proofs.read_head.Goals.{After-read_heading-2, After-read_sizes, After-size_question-number, Else-number-ne0, Else-text-gt-LONGEST, In-Heading, In-Sized}
 
 -- the text that is read, at each place where something is known of it
 abbrev text1 : Else-text-gt-LONGEST → List ℕ
@@ -30,7 +30,7 @@ text1 c = c.before.before.args.text.now
 abbrev text2 : In-Heading → List ℕ
 text2 c = text1 c.before.before.before.before
 
-abbrev text3 : In-Sized-2 → List ℕ
+abbrev text3 : In-Sized → List ℕ
 text3 c = text2 c.before.before.before.before.before
 
 abbrev text4 : Else-number-ne0 → List ℕ
@@ -46,11 +46,11 @@ short c = le-leb (length (text1 c)) longest (omega arith)
 
 pub returns-in_default : goal.returns-in_default
 returns-in_default c =
-    record { asked = head_1 _ _ _ _ (short c.before.before.before.before) (sym c.read_heading.ensures.read ∙ ap heading_is c.enum_told-in_default-1.given.1) }
+    record { asked = head_1 _ _ _ _ (short (goal.at.returns-in_default c).After-read_heading-arg-1) (sym c.read_heading.ensures.read ∙ ap heading_is c.in_default.is) }
 
 -- line 1 is the heading
 first : (c : In-Heading) → starts_with sizes_heading (text2 c) ≡ true
-first c = sym c.read_heading.ensures.read ∙ ap heading_is c.enum_told-1.given.1
+first c = sym c.read_heading.ensures.read ∙ ap heading_is c.in-Heading.is
 
 short2 : (c : In-Heading) → leb (length (text2 c)) longest ≡ true
 short2 c = short c.before.before.before.before
@@ -63,13 +63,13 @@ second c =
 
 pub returns-in_default-read_sizes : goal.returns-in_default-read_sizes
 returns-in_default-read_sizes c =
-    record { asked = head_2 _ _ _ _ (short2 c.before.before.before.before.before) (first c.before.before.before.before.before) (not_found (sizes_at (after_lines 1 (text2 c.before.before.before.before.before))) (sym (ap sizes_is c.enum_told-in_default-read_sizes-1.given.1) ∙ second c.before.before)) }
+    record { asked = head_2 _ _ _ _ (short2 (goal.at.returns-in_default-read_sizes c).In-Heading) (first (goal.at.returns-in_default-read_sizes c).In-Heading) (not_found (sizes_at (after_lines 1 (text2 (goal.at.returns-in_default-read_sizes c).In-Heading))) (sym (ap sizes_is c.in_default-read_sizes.is) ∙ second (goal.at.returns-in_default-read_sizes c).After-read_sizes)) }
 
 -- the two values are those of the text
-values : (c : In-Sized-2) → some (record { n = c.n-1.given.0.0; t = c.n-1.given.0.1.0 }) ≡ value_of (sizes_at (after_lines 1 (text3 c)))
-values c = sym (ap sizes_is c.n-1.given.1) ∙ second c.before.before
+values : (c : In-Sized) → some (record { n = c.in-Sized.n; t = c.in-Sized.t }) ≡ value_of (sizes_at (after_lines 1 (text3 c)))
+values c = sym (ap sizes_is c.in-Sized.is) ∙ second c.before.before
 
-of_its_form : (c : In-Sized-2) → is_found (sizes_at (after_lines 1 (text3 c))) ≡ true
+of_its_form : (c : In-Sized) → is_found (sizes_at (after_lines 1 (text3 c))) ≡ true
 of_its_form c = is_found_lem (sizes_at (after_lines 1 (text3 c))) (values c)
 
 sizes : (c : After-size_question-number) → let text = text3 c.before.before in c.size_question-number.result ≡ size_questions largest (sizes_in text).n (sizes_in text).t 0
@@ -79,7 +79,7 @@ sizes c =
 
 pub returns-then-number-ne0 : goal.returns-then-number-ne0
 returns-then-number-ne0 c =
-    record { asked = head_sizes _ _ _ _ (short2 c.before.before.before.before.before.before.before.before) (first c.before.before.before.before.before.before.before.before) (of_its_form c.before.before.before) _ (sizes c.before) c.if-number-ne0.true }
+    record { asked = head_sizes _ _ _ _ (short2 (goal.at.returns-then-number-ne0 c).In-Heading) (first (goal.at.returns-then-number-ne0 c).In-Heading) (of_its_form (goal.at.returns-then-number-ne0 c).In-Sized) _ (sizes (goal.at.returns-then-number-ne0 c).After-size_question-number) c.if-number-ne0.true }
 
 -- line 3 is compared
 third : (c : After-read_heading-2) → starts_with processes_heading (after_lines 2 (text4 c.before.before.before.before)) ≡ heading_is c.read_heading-2.result
@@ -89,11 +89,11 @@ third c =
 
 pub returns-in_default-read_heading : goal.returns-in_default-read_heading
 returns-in_default-read_heading c =
-    record { asked = head_3 _ _ _ _ (short2 c.before.before.before.before.before.before.before.before.before.before.before.before.before.before) (first c.before.before.before.before.before.before.before.before.before.before.before.before.before.before) (of_its_form c.before.before.before.before.before.before.before.before.before) _ (sizes c.before.before.before.before.before.before.before) c.if-number-ne0.false (third c.before.before ∙ ap heading_is c.enum_told-in_default-read_heading-1.given.1) }
+    record { asked = head_3 _ _ _ _ (short2 (goal.at.returns-in_default-read_heading c).After-line_start) (first (goal.at.returns-in_default-read_heading c).After-line_start) (of_its_form (goal.at.returns-in_default-read_heading c).In-Sized) _ (sizes (goal.at.returns-in_default-read_heading c).Else-number-ne0) c.if-number-ne0.false (third (goal.at.returns-in_default-read_heading c).After-read_heading-2 ∙ ap heading_is c.in_default-read_heading.is) }
 
 pub returns : goal.returns
 returns c =
     record {
-      asked = ap accepted (found_value (record { n = 0; t = 0 }) (sizes_at (after_lines 1 (text3 c.before.before.before.before.before.before.before.before.before))) (values c.before.before.before.before.before.before.before.before.before))
-          ∙ head_passed _ _ _ _ (short2 c.before.before.before.before.before.before.before.before.before.before.before.before.before.before) (first c.before.before.before.before.before.before.before.before.before.before.before.before.before.before) (of_its_form c.before.before.before.before.before.before.before.before.before) _ (sizes c.before.before.before.before.before.before.before) c.if-number-ne0.false (third c.before.before ∙ ap heading_is c.enum_told-in-Heading-read_heading-1.given.1);
+      asked = ap accepted (found_value (record { n = 0; t = 0 }) (sizes_at (after_lines 1 (text3 (goal.at.returns c).In-Sized))) (values (goal.at.returns c).In-Sized))
+          ∙ head_passed _ _ _ _ (short2 (goal.at.returns c).After-line_start) (first (goal.at.returns c).After-line_start) (of_its_form (goal.at.returns c).In-Sized) _ (sizes (goal.at.returns c).Else-number-ne0) c.if-number-ne0.false (third (goal.at.returns c).After-read_heading-2 ∙ ap heading_is c.in-Heading-read_heading.is);
     }

@@ -13,39 +13,39 @@ use Rattle.forms.proofs.read_process.Goals.{After-from-after_crash, After-from-a
 
 pub returns-in_default : goal.returns-in_default
 returns-in_default c =
-    record { read = no_id _ largest _ _ (field_wrong _ c.number_field.ensures.read c.enum_told-1.given.1) }
+    record { read = no_id _ largest _ _ (field_wrong _ c.number_field.ensures.read c.in_default.is) }
 
 -- no process has number 0
 pub returns-then-id-eq0 : goal.returns-then-id-eq0
 returns-then-id-eq0 c =
-    record { read = other_id _ largest _ _ (field_found _ c.number_field.ensures.read c.id-1.given.1 refl) (λ e. omega arith) }
+    record { read = other_id _ largest _ _ (field_found _ c.number_field.ensures.read c.in-Value.is refl) (λ e. omega arith) }
 
 pub returns-then-id-i : goal.returns-then-id-i
 returns-then-id-i c =
-    record { read = other_id _ largest _ _ (field_found _ c.number_field.ensures.read c.id-1.given.1 refl) (λ e. omega arith) }
+    record { read = other_id _ largest _ _ (field_found _ c.number_field.ensures.read c.in-Value.is refl) (λ e. omega arith) }
 
 -- the own number, as it should be
-own_number : (c : After-from-after_id) → let a = c.args in number_field space a.text.now ≡ found c.id-1.given.0.0 c.from-after_id.result.now
-own_number c = field_found _ c.number_field.ensures.read c.id-1.given.1 c.from-after_id.ensures.part
+own_number : (c : After-from-after_id) → let a = c.args in number_field space a.text.now ≡ found c.in-Value.id c.from-after_id.result.now
+own_number c = field_found _ c.number_field.ensures.read c.in-Value.is c.from-after_id.ensures.part
 
-own_place : (c : After-from-after_id) → c.id-1.given.0.0 ≡ c.args.i + 1
+own_place : (c : After-from-after_id) → c.in-Value.id ≡ c.args.i + 1
 own_place c = omega arith
 
 pub returns-in_default-digit_field : goal.returns-in_default-digit_field
 returns-in_default-digit_field c =
-    record { read = no_vote _ largest _ _ (own_number c.before.before.before) (own_place c.before.before.before) (field_wrong _ c.digit_field.ensures.read c.enum_told-in_default-digit_field-1.given.1) }
+    record { read = no_vote _ largest _ _ (own_number (goal.at.returns-in_default-digit_field c).After-from-after_id) (own_place (goal.at.returns-in_default-digit_field c).After-from-after_id) (field_wrong _ c.digit_field.ensures.read c.in_default-digit_field.is) }
 
 -- the vote
-vote : (c : After-from-after_vote) → digit_field space c.from-after_id.result.now ≡ found c.vote-1.given.0.0 c.from-after_vote.result.now
-vote c = field_found _ c.digit_field.ensures.read c.vote-1.given.1 c.from-after_vote.ensures.part
+vote : (c : After-from-after_vote) → digit_field space c.from-after_id.result.now ≡ found c.in-Value-digit_field.vote c.from-after_vote.result.now
+vote c = field_found _ c.digit_field.ensures.read c.in-Value-digit_field.is c.from-after_vote.ensures.part
 
 pub returns-in_default-number_field : goal.returns-in_default-number_field
 returns-in_default-number_field c =
-    record { read = no_crash _ largest _ _ (own_number c.before.before.before.before.before.before.before.before) (own_place c.before.before.before.before.before.before.before.before) (vote c.before.before.before) (field_wrong _ c.number_field-2.ensures.read c.enum_told-in_default-number_field-1.given.1) }
+    record { read = no_crash _ largest _ _ (own_number (goal.at.returns-in_default-number_field c).After-from-after_id) (own_place (goal.at.returns-in_default-number_field c).After-from-after_id) (vote (goal.at.returns-in_default-number_field c).After-from-after_vote) (field_wrong _ c.number_field-2.ensures.read c.in_default-number_field.is) }
 
 -- the crash round
-crash : (c : After-from-after_crash) → number_field space c.from-after_vote.result.now ≡ found c.crash-1.given.0.0 c.from-after_crash.result.now
-crash c = field_found _ c.number_field-2.ensures.read c.crash-1.given.1 c.from-after_crash.ensures.part
+crash : (c : After-from-after_crash) → number_field space c.from-after_vote.result.now ≡ found c.in-Value-number_field.crash c.from-after_crash.result.now
+crash c = field_found _ c.number_field-2.ensures.read c.in-Value-number_field.is c.from-after_crash.ensures.part
 
 -- the reach, which ends with the line
 reach : (c : After-reach_field) → let n = c.args.n in reach_is c.from-after_crash.result.now c.reach_field.result ≡ reach_up_to lf c.from-after_crash.result.now largest n
@@ -53,8 +53,8 @@ reach c = c.reach_field.ensures.read
 
 pub returns-in_default-reach_field : goal.returns-in_default-reach_field
 returns-in_default-reach_field c =
-    record { read = no_reach _ largest _ _ (own_number c.before.before.before.before.before.before.before.before.before.before.before.before.before) (own_place c.before.before.before.before.before.before.before.before.before.before.before.before.before) (vote c.before.before.before.before.before.before.before.before) (crash c.before.before.before) (reach_wrong _ (reach c.before.before) c.enum_told-in_default-reach_field-1.given.1) }
+    record { read = no_reach _ largest _ _ (own_number (goal.at.returns-in_default-reach_field c).After-from-after_id) (own_place (goal.at.returns-in_default-reach_field c).After-from-after_id) (vote (goal.at.returns-in_default-reach_field c).After-from-after_vote) (crash (goal.at.returns-in_default-reach_field c).After-from-after_crash) (reach_wrong _ (reach (goal.at.returns-in_default-reach_field c).After-reach_field) c.in_default-reach_field.is) }
 
 pub returns : goal.returns
 returns c =
-    record { read = whole_entry _ largest _ _ (own_number c.before.before.before.before.before.before.before.before.before.before.before.before.before.before) (own_place c.before.before.before.before.before.before.before.before.before.before.before.before.before.before) (vote c.before.before.before.before.before.before.before.before.before) (crash c.before.before.before.before) (reach_found _ (reach c.before.before.before) c.reach-1.given.1) }
+    record { read = whole_entry _ largest _ _ (own_number (goal.at.returns c).After-from-after_id) (own_place (goal.at.returns c).After-from-after_id) (vote (goal.at.returns c).After-from-after_vote) (crash (goal.at.returns c).After-from-after_crash) (reach_found _ (reach (goal.at.returns c).After-reach_field) c.in-Names.is) }

@@ -9,16 +9,16 @@ use Rattle.forms.proofs.read_sizes.Goals.{After-from-rest}
 
 pub returns-in_default : goal.returns-in_default
 returns-in_default c =
-    record { read = no_n _ (field_wrong _ c.number_field.ensures.read c.enum_told-1.given.1) }
+    record { read = no_n _ (field_wrong _ c.number_field.ensures.read c.in_default.is) }
 
 -- the first number
-first : (c : After-from-rest) → let a = c.args in number_field space a.text.now ≡ found c.n-1.given.0.0 c.from-rest.result.now
-first c = field_found _ c.number_field.ensures.read c.n-1.given.1 c.from-rest.ensures.part
+first : (c : After-from-rest) → let a = c.args in number_field space a.text.now ≡ found c.in-Value.n c.from-rest.result.now
+first c = field_found _ c.number_field.ensures.read c.in-Value.is c.from-rest.ensures.part
 
 pub returns-in_default-number_field : goal.returns-in_default-number_field
 returns-in_default-number_field c =
-    record { read = no_t _ (first c.before.before.before) (field_wrong _ c.number_field-2.ensures.read c.enum_told-in_default-number_field-1.given.1) }
+    record { read = no_t _ (first (goal.at.returns-in_default-number_field c).After-from-rest) (field_wrong _ c.number_field-2.ensures.read c.in_default-number_field.is) }
 
 pub returns : goal.returns
 returns c =
-    record { read = both_sizes _ (first c.before.before.before.before) (field_found _ c.number_field-2.ensures.read c.t-1.given.1 refl) }
+    record { read = both_sizes _ (first (goal.at.returns c).After-from-rest) (field_found _ c.number_field-2.ensures.read c.in-Value-number_field.is refl) }

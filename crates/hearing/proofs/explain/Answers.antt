@@ -14,7 +14,7 @@ use Rattle.hearing.proofs.explain.Goals.{In-Moved}
 -- the row is accepted
 passed : (c : In-Moved)
     → hear_question largest c.args.m c.args.row.now ≡ 0
-passed c = heard_question largest _ _ (ap heard_is (sym c.enum_told-1.given.1) ∙ c.hear-answer.ensures.answered)
+passed c = heard_question largest _ _ (ap heard_is (sym c.in-Moved.is) ∙ c.hear-answer.ensures.answered)
 
 pub tally-counts-requires : goal.tally-counts-requires
 tally-counts-requires c =
@@ -22,14 +22,14 @@ tally-counts-requires c =
 
 pub reason-requires : goal.reason-requires
 reason-requires c =
-    let a = accepts largest _ _ (passed c.before) in
+    let a = accepts largest _ _ (passed (goal.at.reason-requires c).In-Moved) in
     let long = a.long in
-    let high = a.range.bounds.n_high in record { in_range = heard_in_range largest _ _ (passed c.before); short = omega arith; counted = c.tally-counts.ensures.counted; counts = omega (arith, estimates_high _ _ c.tally-counts.ensures.counted) }
+    let high = a.range.bounds.n_high in record { in_range = heard_in_range largest _ _ (passed (goal.at.reason-requires c).In-Moved); short = omega arith; counted = c.tally-counts.ensures.counted; counts = omega (arith, estimates_high _ _ c.tally-counts.ensures.counted) }
 
 pub returns-in-Moved : goal.returns-in-Moved
 returns-in-Moved c =
-    record { answered = explained largest _ _ (ap heard_is (sym c.enum_told-1.given.1) ∙ c.hear-answer.ensures.answered) c.reason.ensures.is }
+    record { answered = explained largest _ _ (ap heard_is (sym c.in-Moved.is) ∙ c.hear-answer.ensures.answered) c.reason.ensures.is }
 
 pub returns-in-Refused : goal.returns-in-Refused
 returns-in-Refused c =
-    record { answered = not_explained largest _ _ (ap heard_is (sym c.answer-1.given.1) ∙ c.hear-answer.ensures.answered) }
+    record { answered = not_explained largest _ _ (ap heard_is (sym c.in-Refused.is) ∙ c.hear-answer.ensures.answered) }

@@ -24,7 +24,7 @@ returns-else-at-text c =
       start = let a = c.args in
           let l = c.loop-i in
           let text = a.text.now in
-          let end : length text ≤ l.at = ltb-false _ _ c.if-at-text.false in
+          let end : length text ≤ l.at = c.if-at-text.false in
           let part = after_short l.i text in
           let fewer = after_fewer text l.i a.k l.invariant.0 in
           omega arith;
@@ -39,3 +39,8 @@ returns-after-loop-i c =
           let all : l.i ≡ a.k = omega arith in
           l.invariant.1 ∙ ap (λ (i : ℕ). start_of a.text.now (after_lines i a.text.now)) all;
     }
+
+pub loop-i-init : goal.loop-i-init
+unfolding after_lines
+loop-i-init c =
+    omega arith

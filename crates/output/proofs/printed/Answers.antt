@@ -16,45 +16,45 @@ use Rattle.reader.proofs.Texts.{schedule_read_lem, text_refused}
 use Rattle.output.specs.Answers.{output_is, shown_of}
 use Rattle.output.proofs.Texts.{n_small, read_question, accepted_printed, line_shown, refusal_printed, counts, keeps_promises}
 use Rattle.output.proofs.printed.Goals as goal
-use Rattle.output.proofs.printed.Goals.{After-read-reading, In-Read-2, In-Refused-2}
+use Rattle.output.proofs.printed.Goals.{After-read-reading, In-Read, In-Refused}
 
 -- the reader's own tables have an entry for each process of the largest cluster
 sized : (c : After-read-reading) → tables_of largest (length c.zero_bytes-votes.result) (length c.zero_bytes-crashes.result) (length c.zero_sets-reaches.result) ≡ true
 sized c = of_size largest (search rules) (search rules) (search rules)
 
 -- the text is accepted
-accepts : (c : In-Read-2) → accepted (record { n = c.reading-1.given.0.0; t = c.reading-1.given.0.1.0 }) ≡ read_answer largest longest c.args.text.now c.zero_bytes-votes.result c.zero_bytes-crashes.result c.zero_sets-reaches.result
-accepts c = sym (ap reading_is c.reading-1.given.1) ∙ c.read-reading.ensures.read.answered
+accepts : (c : In-Read) → accepted (record { n = c.in-Read.n; t = c.in-Read.t }) ≡ read_answer largest longest c.args.text.now c.zero_bytes-votes.result c.zero_bytes-crashes.result c.zero_sets-reaches.result
+accepts c = sym (ap reading_is c.in-Read.is) ∙ c.read-reading.ensures.read.answered
 
 -- and its schedule stands in the first n entries of the tables
-schedule : (c : In-Read-2) → let n = c.reading-1.given.0.0 in let t = c.reading-1.given.0.1.0 in
+schedule : (c : In-Read) → let n = c.in-Read.n in let t = c.in-Read.t in
     schedule_of n t (take n c.read-reading.new.1.0) (take n c.read-reading.new.1.1.0) (take n c.read-reading.new.1.1.1.0) ≡ schedule_in c.args.text.now
 schedule c =
     schedule_read_lem largest longest _ _ _ _ (accepts c) _ _ _ c.read-reading.ensures.read.votes_read c.read-reading.ensures.read.crashes_read c.read-reading.ensures.read.reaches_read
 
 pub of_tables-requires : goal.of_tables-requires
 of_tables-requires c =
-    record { size = n_small _ _ _ _ (accepts c.before); accepted = read_question _ _ _ _ (accepts c.before) _ (schedule c.before) }
+    record { size = n_small _ _ _ _ (accepts (goal.at.of_tables-requires c).In-Read); accepted = read_question _ _ _ _ (accepts (goal.at.of_tables-requires c).In-Read) _ (schedule (goal.at.of_tables-requires c).In-Read) }
 
 -- the text is refused
-refuses : (c : In-Refused-2) → text_answer c.args.text.now largest longest ≡ refused c.reading-in-Refused-1.given.0.0 c.reading-in-Refused-1.given.0.1.0
+refuses : (c : In-Refused) → text_answer c.args.text.now largest longest ≡ refused c.in-Refused.number c.in-Refused.k
 refuses c =
-    text_refused largest longest _ _ _ _ (sized c.before.before.before.before.before) (sym (ap reading_is c.reading-in-Refused-1.given.1) ∙ c.read-reading.ensures.read.answered)
+    text_refused largest longest _ _ _ _ (sized c.before.before.before.before.before) (sym (ap reading_is c.in-Refused.is) ∙ c.read-reading.ensures.read.answered)
 
 pub refused-requires : goal.refused-requires
 refused-requires c =
-    record { short = line_shown _ (refuses c.before) }
+    record { short = line_shown _ (refuses (goal.at.refused-requires c).In-Refused) }
 
 pub returns-in-Read : goal.returns-in-Read
 returns-in-Read c =
     let text = c.args.text.now in
     let wanted = c.args.wanted in
-    let e = c.of_tables.ensures.output ∙ ap output_is (accepted_printed text _ _ _ (accepts c.before.before) (shown_of wanted) _ (schedule c.before.before)) in
+    let e = c.of_tables.ensures.output ∙ ap output_is (accepted_printed text _ _ _ (accepts (goal.at.returns-in-Read c).In-Read) (shown_of wanted) _ (schedule (goal.at.returns-in-Read c).In-Read)) in
     record { output = e; fits = counts (output_of (shown_of wanted) text largest longest) e c.of_tables.ensures.fits; promises = keeps_promises wanted text _ e }
 
 pub returns-in-Refused : goal.returns-in-Refused
 returns-in-Refused c =
     let text = c.args.text.now in
     let wanted = c.args.wanted in
-    let e = c.refused.ensures.output ∙ ap output_is (refusal_printed text (refuses c.before.before) (shown_of wanted)) in
+    let e = c.refused.ensures.output ∙ ap output_is (refusal_printed text (refuses (goal.at.returns-in-Refused c).In-Refused) (shown_of wanted)) in
     record { output = e; fits = counts (output_of (shown_of wanted) text largest longest) e c.refused.ensures.fits; promises = keeps_promises wanted text _ e }

@@ -16,7 +16,7 @@ use Rattle.reader.specs.Answers.{read_questions}
 use Rattle.reader.specs.Parts.{asked_is}
 use Rattle.reader.proofs.Whole.{tables_refuse, head_refused, head_passed, read_refused, read_accepted, table_kept, table_read}
 use Rattle.reader.proofs.read.Goals as goal
-use Rattle.reader.proofs.read.Goals.{After-read_rest, Else-not-are_of_size, In-Passed-2}
+use Rattle.reader.proofs.read.Goals.{After-read_rest, Else-not-are_of_size, In-Passed}
 
 pub returns-then-not-are_of_size : goal.returns-then-not-are_of_size
 returns-then-not-are_of_size c =
@@ -36,25 +36,25 @@ sized : (c : Else-not-are_of_size) → let a = c.args in tables_of largest (leng
 sized c = was_true c.are_of_size.ensures.tested c.if-not-are_of_size.false
 
 -- the sizes are those of the text, and what is left to ask are the questions of the rest
-passed_head : (c : In-Passed-2) → let a = c.args in let text = a.text.now in
+passed_head : (c : In-Passed) → let a = c.args in let text = a.text.now in
     (read_questions largest longest text a.votes.now a.crashes.now a.reaches.now ≡ rest_questions text)
-    × (sizes_in text ≡ record { n = c.n-1.given.0.0; t = c.n-1.given.0.1.0 })
-    × (c.n-1.given.0.0 ≤ largest)
+    × (sizes_in text ≡ record { n = c.in-Passed.n; t = c.in-Passed.t })
+    × (c.in-Passed.n ≤ largest)
 passed_head c =
     let a = c.args in
-    head_passed a.text.now largest longest a.votes.now a.crashes.now a.reaches.now (sized c.before.before.before) (sym (ap head_is c.n-1.given.1) ∙ c.read_head.ensures.asked)
+    head_passed a.text.now largest longest a.votes.now a.crashes.now a.reaches.now (sized c.before.before.before) (sym (ap head_is c.in-Passed.is) ∙ c.read_head.ensures.asked)
 
 pub read_rest-requires : goal.read_rest-requires
 read_rest-requires c =
-    let p = passed_head c.before.before.before.before in
+    let p = passed_head (goal.at.read_rest-requires c).In-Passed in
     let same = p.1 in
-    record { sizes = (p.2, ap (λ (s : Sizes). s.n) same, ap (λ (s : Sizes). s.t) same); long = all_of_size largest _ _ _ (sized c.before.before.before.before.before.before.before) }
+    record { sizes = (p.2, ap (λ (s : Sizes). s.n) same, ap (λ (s : Sizes). s.t) same); long = all_of_size largest _ _ _ (sized (goal.at.read_rest-requires c).Else-not-are_of_size) }
 
 pub returns-in-Refused : goal.returns-in-Refused
 returns-in-Refused c =
     record {
       read = let a = c.args in
-          let e = head_refused a.text.now largest longest a.votes.now a.crashes.now a.reaches.now (sized c.before.before.before.before) (sym (ap head_is c.number-1.given.1) ∙ c.read_head.ensures.asked) in
+          let e = head_refused a.text.now largest longest a.votes.now a.crashes.now a.reaches.now (sized (goal.at.returns-in-Refused c).Else-not-are_of_size) (sym (ap head_is c.in-Refused.is) ∙ c.read_head.ensures.asked) in
           record {
             answered = read_refused _ _ _ _ _ _ e;
             votes_read = table_kept _ _ _ _ _ _ e _ _;
@@ -70,8 +70,8 @@ answered_by_rest c = c.read_rest.ensures.read.asked ∙ sym (passed_head c.befor
 pub returns-in-Refused-read_rest : goal.returns-in-Refused-read_rest
 returns-in-Refused-read_rest c =
     record {
-      read = let p = (passed_head c.before.before.before.before.before.before.before.before.before.before.before.before.before.before).0 in
-          let e = sym (answered_by_rest c.before.before.before.before.before.before.before.before.before) ∙ ap asked_is c.number-in-Refused-read_rest-1.given.1 in
+      read = let p = (passed_head (goal.at.returns-in-Refused-read_rest c).In-Passed).0 in
+          let e = sym (answered_by_rest (goal.at.returns-in-Refused-read_rest c).After-read_rest) ∙ ap asked_is c.in-Refused-read_rest.is in
           record {
             answered = read_refused _ _ _ _ _ _ e;
             votes_read = c.read_rest.ensures.read.votes_read ∙ table_read _ _ _ _ _ _ p _ _;
@@ -83,9 +83,9 @@ returns-in-Refused-read_rest c =
 pub returns-in-Passed-read_rest : goal.returns-in-Passed-read_rest
 returns-in-Passed-read_rest c =
     record {
-      read = let h = passed_head c.before.before.before.before.before.before.before.before.before.before.before.before.before in
+      read = let h = passed_head (goal.at.returns-in-Passed-read_rest c).In-Passed in
           let p = h.0 in
-          let e = sym (answered_by_rest c.before.before.before.before.before.before.before.before) ∙ ap asked_is c.enum_told-1.given.1 in
+          let e = sym (answered_by_rest (goal.at.returns-in-Passed-read_rest c).After-read_rest) ∙ ap asked_is c.in-Passed-read_rest.is in
           record {
             answered = ap accepted (sym h.1) ∙ read_accepted _ _ _ _ _ _ e;
             votes_read = c.read_rest.ensures.read.votes_read ∙ table_read _ _ _ _ _ _ p _ _;

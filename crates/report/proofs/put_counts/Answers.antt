@@ -6,9 +6,9 @@ use Rattle.report.proofs.put_counts.Goals as goal
 
 pub returns : goal.returns
 unfolding counts_line
-returns c decisions rounds =
+returns c =
     record {
-      written = writes_more _ _ c.put_field-after_n.ensures.written
+      written = λ decisions rounds. writes_more _ _ c.put_field-after_n.ensures.written
           (writes_more _ _ c.put_field-after_t.ensures.written
           (writes_more _ _ c.put_field-after_f.ensures.written
           (writes_more _ _ c.put_field-after_first.ensures.written

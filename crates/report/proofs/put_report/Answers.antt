@@ -21,7 +21,7 @@ one_length c = omega arith
 
 pub returns-then-not-are_decisions : goal.returns-then-not-are_decisions
 returns-then-not-are_decisions c =
-    record { written = writes_same (shown_none _ _ _ _ (one_length c.before.before) (was_false c.are_decisions.ensures.tested c.if-not-are_decisions.true)) (writes_none _ _) }
+    record { written = writes_same (shown_none _ _ _ _ (one_length (goal.at.returns-then-not-are_decisions c).Else-decided-decisions) (was_false c.are_decisions.ensures.tested c.if-not-are_decisions.true)) (writes_none _ _) }
 
 -- and hold decisions
 right : (c : Else-not-are_decisions) → are_decisions c.args.decisions.now ≡ true
@@ -29,8 +29,8 @@ right c = was_true c.are_decisions.ensures.tested c.if-not-are_decisions.false
 
 pub put_lines-requires : goal.put_lines-requires
 put_lines-requires c =
-    record { size = one_length c.before.before.before; values = right c.before }
+    record { size = one_length (goal.at.put_lines-requires c).Else-decided-decisions; values = right (goal.at.put_lines-requires c).Else-not-are_decisions }
 
 pub returns : goal.returns
 returns c =
-    record { written = writes_same (sym (shown_all _ _ _ _ (one_length c.before.before.before.before.before.before) (right c.before.before.before.before))) c.put_lines.ensures.written }
+    record { written = writes_same (sym (shown_all _ _ _ _ (one_length (goal.at.returns c).Else-decided-decisions) (right (goal.at.returns c).Else-not-are_decisions))) c.put_lines.ensures.written }

@@ -48,9 +48,9 @@ returns c =
           let filled = c.fill.ensures in
           let found = c.counts_of.ensures.counted in
           record {
-            answered = completed_answer fcwfa s d r left accepting filled.0 filled.1 found;
-            decisions_given = given_decisions fcwfa s d r left accepting filled.0 filled.1 found;
-            rounds_given = given_rounds fcwfa s d r left accepting filled.0 filled.1 found;
-            promises = completed_keeps s _ (passed fcwfa s d r left accepting) (given_is fcwfa s d r left accepting filled.0 filled.1 found);
+            answered = completed_answer fcwfa s d r left accepting filled.decided filled.timed found;
+            decisions_given = given_decisions fcwfa s d r left accepting filled.decided filled.timed found;
+            rounds_given = given_rounds fcwfa s d r left accepting filled.decided filled.timed found;
+            promises = completed_keeps s _ (passed fcwfa s d r left accepting) (given_is fcwfa s d r left accepting filled.decided filled.timed found);
           };
     }

@@ -27,8 +27,8 @@ asked c =
 pub returns-then-number-ne0 : goal.returns-then-number-ne0
 returns-then-number-ne0 c =
     record {
-      written = let e = asked c.before in
-          refuses (given c.before) _ _ (tables_refuse largest (given c.before) _ (λ z. c.if-number-ne0.true (e ∙ z)) ∙ sym e) c.if-number-ne0.true;
+      written = let e = asked (goal.at.returns-then-number-ne0 c).After-question-number in
+          refuses (given (goal.at.returns-then-number-ne0 c).After-question-number) _ _ (tables_refuse largest (given (goal.at.returns-then-number-ne0 c).After-question-number) _ (λ z. c.if-number-ne0.true (e ∙ z)) ∙ sym e) c.if-number-ne0.true;
     }
 
 -- no table question is left
@@ -47,22 +47,22 @@ its_length c = c.text_length.ensures.is ∙ sym (text_long (given c.before.befor
 pub returns-then-buffer-text_length : goal.returns-then-buffer-text_length
 returns-then-buffer-text_length c =
     record {
-      written = let long = its_length c.before in
+      written = let long = its_length (goal.at.returns-then-buffer-text_length c).After-text_length in
           let buffer = c.args.buffer.now in
-          let q = too_short largest (given c.before.before.before) buffer (passed c.before.before) (omega arith) in
-          refuses (given c.before.before.before) _ 18 q (λ z. omega arith);
+          let q = too_short largest (given (goal.at.returns-then-buffer-text_length c).After-question-number) buffer (passed (goal.at.returns-then-buffer-text_length c).Else-number-ne0) (omega arith) in
+          refuses (given (goal.at.returns-then-buffer-text_length c).After-question-number) _ 18 q (λ z. omega arith);
     }
 
 pub put_text-requires : goal.put_text-requires
 put_text-requires c =
     record {
-      long = let ok = question_accepted _ largest true (passed c.before.before.before) in
+      long = let ok = question_accepted _ largest true (passed (goal.at.put_text-requires c).Else-number-ne0) in
           (ok.votes_long, ok.crashes_long, ok.reaches_long);
     }
 
 pub returns : goal.returns
 returns c =
     record {
-      written = let long = its_length c.before.before.before.before.before in
-          writes (given c.before.before.before.before.before.before.before) _ (passed c.before.before.before.before.before.before) (omega arith) c.put_text.ensures.written;
+      written = let long = its_length (goal.at.returns c).After-text_length in
+          writes (given (goal.at.returns c).After-question-number) _ (passed (goal.at.returns c).Else-number-ne0) (omega arith) c.put_text.ensures.written;
     }

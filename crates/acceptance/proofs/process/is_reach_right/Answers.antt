@@ -28,7 +28,7 @@ unfolding reach_right
 returns-then-crash-ne0 c =
     record {
       tested = let a = c.args in
-          let h1 : names_others a.n a.i a.reach ≡ true = of_others c.before in
+          let h1 : names_others a.n a.i a.reach ≡ true = of_others (goal.at.returns-then-crash-ne0 c).Else-not-is_of_others in
           rw (h1, ne_eqb a.crash 0 (λ e. omega arith));
     }
 
@@ -37,6 +37,6 @@ unfolding reach_right
 returns c =
     record {
       tested = let a = c.args in
-          let h1 : names_others a.n a.i a.reach ≡ true = of_others c.before in
+          let h1 : names_others a.n a.i a.reach ≡ true = of_others (goal.at.returns c).Else-not-is_of_others in
           rw (h1, eq-eqb a.crash 0 (omega arith));
     }

@@ -20,9 +20,9 @@ loop-place-init c =
     let a = c.args in
     let s = schedule_of a.n a.t a.votes.now a.crashes.now a.reaches.now in
     let pre = c.requires in
-    let ok = question_accepted s largest true pre.0 in
+    let ok = question_accepted s largest true pre.accepted in
     let opened = c.open_all-members.ensures in
-    (starts calls s ok.n_high pre.1 opened.0 c.zero_bytes-codes.ensures.zeros opened.1, nothing_searched s ok.rules, refl)
+    (starts calls s ok.n_high pre.size opened.opened c.zero_bytes-codes.ensures.zeros opened.said, nothing_searched s ok.rules, refl)
 
 pub overflow_add-round : goal.overflow_add-round
 overflow_add-round c =
@@ -85,12 +85,12 @@ loop-place-preserved c =
     let a = c.args in
     let s = schedule_of a.n a.t a.votes.now a.crashes.now a.reaches.now in
     let pre = c.requires in
-    let ok = question_accepted s largest true pre.0 in
+    let ok = question_accepted s largest true pre.accepted in
     let at = c.loop-place in
     let round = c.play_round-next.ensures in
-    let between = goes_on calls s ok.n_high at.played at.invariant.0 round.0 round.1 c.grid-1.given in (
+    let between = goes_on calls s ok.n_high at.played at.invariant.0 round.played round.said c.grid-1.given in (
       between,
-      searches_on s ok.rules at.invariant.1 c.loop-place-test.true ok.n_high (accepted_run s largest true pre.0).own_answers between.states c.lowest_decided-place.ensures.found,
+      searches_on s ok.rules at.invariant.1 c.loop-place-test.true ok.n_high (accepted_run s largest true pre.accepted).own_answers between.states c.lowest_decided-place.ensures.found,
       (let kept = at.invariant.2 in omega arith),
     )
 
@@ -131,5 +131,5 @@ returns c =
     let a = c.args in
     let s = schedule_of a.n a.t a.votes.now a.crashes.now a.reaches.now in
     let pre = c.requires in
-    let ok = question_accepted s largest true pre.0 in
-    let inv = c.loop-place.invariant in record { decided = first_decides s ok.rules inv.1 c.loop-place-test.false ok.n_high (accepted_run s largest true pre.0).own_answers inv.0.states refl refl; passed = refl }
+    let ok = question_accepted s largest true pre.accepted in
+    let inv = c.loop-place.invariant in record { decided = first_decides s ok.rules inv.1 c.loop-place-test.false ok.n_high (accepted_run s largest true pre.accepted).own_answers inv.0.states refl refl; passed = refl }

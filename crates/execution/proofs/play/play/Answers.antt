@@ -10,7 +10,7 @@ use Rattle.execution.proofs.play.play.Goals as goal
 pub play_on-requires : goal.play_on-requires
 play_on-requires c =
     let pre = c.requires in
-    record { accepted = pre.0; rounds = pre.1; size = omega arith }
+    record { accepted = pre.accepted; rounds = pre.rounds; size = omega arith }
 
 pub returns-then-n-le-FEW : goal.returns-then-n-le-FEW
 returns-then-n-le-FEW c =
@@ -22,8 +22,8 @@ play_on-requires-2 c =
     let a = c.args in
     let pre = c.requires in
     let s = schedule_of a.n a.t a.votes.now a.crashes.now a.reaches.now in
-    let n_high = (question_accepted s largest true pre.0).n_high in
-    record { accepted = pre.0; rounds = pre.1; size = omega arith }
+    let n_high = (question_accepted s largest true pre.accepted).n_high in
+    record { accepted = pre.accepted; rounds = pre.rounds; size = omega arith }
 
 pub returns : goal.returns
 returns c =

@@ -20,19 +20,19 @@ loop-played-init c =
     let a = c.args in
     let s = schedule_of a.n a.t a.votes.now a.crashes.now a.reaches.now in
     let pre = c.requires in
-    let ok = question_accepted s largest true pre.0 in
+    let ok = question_accepted s largest true pre.accepted in
     let opened = c.open_all-members.ensures in
-    (starts calls s ok.n_high pre.1.1 opened.0 c.zero_bytes-codes.ensures.zeros opened.1, nothing_counted calls s a.last, refl)
+    (starts calls s ok.n_high pre.size opened.opened c.zero_bytes-codes.ensures.zeros opened.said, nothing_counted calls s a.last, refl)
 
 pub overflow_cast-round : goal.overflow_cast-round
 overflow_cast-round c =
     let a = c.args in
     let s = schedule_of a.n a.t a.votes.now a.crashes.now a.reaches.now in
     let pre = c.requires in
-    let ok = question_accepted s largest true pre.0 in
+    let ok = question_accepted s largest true pre.accepted in
     let n_high = ok.n_high in
     let t_high = ok.rules.t_high in
-    let rounds = pre.1.0 in
+    let rounds = pre.rounds in
     omega arith
 
 pub shape_of-grid-then-sent-eq0 : goal.shape_of-grid-then-sent-eq0
@@ -44,10 +44,10 @@ returns-then-sent-eq0 c =
     let a = c.args in
     let s = schedule_of a.n a.t a.votes.now a.crashes.now a.reaches.now in
     let pre = c.requires in
-    let ok = question_accepted s largest true pre.0 in
-    let promises = accepted_run s largest true pre.0 in
+    let ok = question_accepted s largest true pre.accepted in
+    let promises = accepted_run s largest true pre.accepted in
     let at = c.loop-played in
-    let sent = sent_in calls s ok.n_high at.played at.invariant.0 c.message_count-sent.ensures.counted in record { played = ends_silent fcwfa s ok.n_high promises.own_answers pre.1.0 at.invariant.0.states at.invariant.1 promises.silence (omega arith) (sym sent ∙ c.if-sent-eq0.true); passed = refl }
+    let sent = sent_in calls s ok.n_high at.played at.invariant.0 c.message_count-sent.ensures.counted in record { played = ends_silent fcwfa s ok.n_high promises.own_answers pre.rounds at.invariant.0.states at.invariant.1 promises.silence (omega arith) (sym sent ∙ c.if-sent-eq0.true); passed = refl }
 
 pub play_round-next-requires : goal.play_round-next-requires
 play_round-next-requires c =
@@ -64,10 +64,10 @@ overflow_add-messages c =
     let a = c.args in
     let s = schedule_of a.n a.t a.votes.now a.crashes.now a.reaches.now in
     let pre = c.requires in
-    let ok = question_accepted s largest true pre.0 in
+    let ok = question_accepted s largest true pre.accepted in
     let n_high = ok.n_high in
     let t_high = ok.rules.t_high in
-    let rounds = pre.1.0 in
+    let rounds = pre.rounds in
     let so_far = c.loop-played.invariant.1 in
     let inside = so_far.inside in
     let few = so_far.few in
@@ -82,9 +82,9 @@ loop-played-preserved c =
     let at = c.loop-played in
     let round = c.play_round-next.ensures in
     let counted = c.message_count-sent.ensures in
-    let sent = sent_in calls s ok.n_high at.played at.invariant.0 counted.0 in (
-      goes_on calls s ok.n_high at.played at.invariant.0 round.0 round.1 (omega arith),
-      counts_on calls s at.invariant.1 (omega arith) sent counted.1,
+    let sent = sent_in calls s ok.n_high at.played at.invariant.0 counted.counted in (
+      goes_on calls s ok.n_high at.played at.invariant.0 round.played round.said (omega arith),
+      counts_on calls s at.invariant.1 (omega arith) sent counted.few,
       (let kept = at.invariant.2 in omega arith),
     )
 
@@ -97,5 +97,5 @@ returns c =
     let a = c.args in
     let s = schedule_of a.n a.t a.votes.now a.crashes.now a.reaches.now in
     let pre = c.requires in
-    let ok = question_accepted s largest true pre.0 in
-    let at = c.loop-played in record { played = ends_last fcwfa s ok.n_high (accepted_run s largest true pre.0).own_answers pre.1.0 at.invariant.0.states at.invariant.1 c.loop-played-test.false; passed = refl }
+    let ok = question_accepted s largest true pre.accepted in
+    let at = c.loop-played in record { played = ends_last fcwfa s ok.n_high (accepted_run s largest true pre.accepted).own_answers pre.rounds at.invariant.0.states at.invariant.1 c.loop-played-test.false; passed = refl }

@@ -27,11 +27,11 @@ loop-i-preserved c =
     let inv = at.invariant in
     let long = length-replicate largest nobody in
     let opened = c.opened-first.ensures in
-    let state = opened.0 ∙ ap (calls.opening _ _ _) c.byte_at.ensures.entry in (
+    let state = opened.state ∙ ap (calls.opening _ _ _) c.byte_at.ensures.entry in (
       inv.0,
       omega arith,
       over_more (omega arith) inv.2 state,
-      over_more (omega arith) inv.3 (opened.1 ∙ ap calls.says state),
+      over_more (omega arith) inv.3 (opened.said ∙ ap calls.says state),
       inv.4,
     )
 

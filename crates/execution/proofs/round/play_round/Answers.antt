@@ -57,14 +57,14 @@ loop-i-preserved c =
     let at = c.loop-i in
     let turn = c.next_turn-turn.ensures in
     let state =
-    turn.0
+    turn.state
     ∙ ap₂ (λ (crash : ℕ) (m : Member). state_after calls a.round crash m (take size (get_or c.deliver.new.1.1.1.1.1.0 at.i [])))
-    c.byte_at.ensures.entry (member_here c.before.before)
+    c.byte_at.ensures.entry (member_here (goal.at.loop-i-preserved c).After-byte_at)
     in (
       at.invariant.0,
       omega arith,
       over_more (omega arith) at.invariant.2 state,
-      over_more (omega arith) at.invariant.3 (turn.1 ∙ ap calls.says state),
+      over_more (omega arith) at.invariant.3 (turn.said ∙ ap calls.says state),
       at.invariant.4,
       at.invariant.5,
     )
@@ -74,5 +74,5 @@ returns c =
     let a = c.args in
     let pre = c.requires in
     let at = c.loop-i in
-    let delivered = c.deliver.ensures.delivered pre.0.0 in
-    let hears = all_heard calls a.n a.round a.crashes.now c.deliver.new.1.1.1.1.1.0 at.invariant.0 (omega arith) at.invariant.2 in record { played = plays_round calls (fitting a.n) a.round (λ j. get_or a.codes.now j 0) a.crashes.now a.reaches.now delivered pre.1 hears; said = all_said calls a.n a.round a.crashes.now c.deliver.new.1.1.1.1.1.0 at.invariant.0 (omega arith) hears at.invariant.3 }
+    let delivered = c.deliver.ensures.delivered pre.room.0 in
+    let hears = all_heard calls a.n a.round a.crashes.now c.deliver.new.1.1.1.1.1.0 at.invariant.0 (omega arith) at.invariant.2 in record { played = plays_round calls (fitting a.n) a.round (λ j. get_or a.codes.now j 0) a.crashes.now a.reaches.now delivered pre.said_before hears; said = all_said calls a.n a.round a.crashes.now c.deliver.new.1.1.1.1.1.0 at.invariant.0 (omega arith) hears at.invariant.3 }

@@ -10,9 +10,9 @@ use Rattle.explanation.proofs.own.said.Goals as goal
 pub returns-in-Code : goal.returns-in-Code
 unfolding say_answer
 returns-in-Code c =
-    record { is = (answer_given _ _ tt (λ (x : ℕ). x) nothing (ap said_is (sym c.answer-1.given.1) ∙ c.say-answer.ensures.answered)).1 }
+    record { is = (answer_given _ _ tt (λ (x : ℕ). x) nothing (ap said_is (sym c.in-Code.is) ∙ c.say-answer.ensures.answered)).1 }
 
 pub returns-in-Refused : goal.returns-in-Refused
 unfolding say_answer
 returns-in-Refused c =
-    record { is = (answer_kept _ _ tt (λ (x : ℕ). x) nothing (ap said_is (sym c.enum_told-1.given.1) ∙ c.say-answer.ensures.answered)).1 }
+    record { is = (answer_kept _ _ tt (λ (x : ℕ). x) nothing (ap said_is (sym c.in-Refused.is) ∙ c.say-answer.ensures.answered)).1 }

@@ -13,22 +13,22 @@ use Rattle.hearing.proofs.codes.row_question.Goals.{After-is_told_both}
 
 pub returns-then-others-ne0 : goal.returns-then-others-ne0
 unfolding row_question ask
-returns-then-others-ne0 c m r s =
-    record { asked = let k = c.args.k in simp (ne_eqb k.others 0 c.if-others-ne0.true) }
+returns-then-others-ne0 c =
+    record { asked = λ m r s. let k = c.args.k in simp (ne_eqb k.others 0 c.if-others-ne0.true) }
 
 pub returns-then-own-says : goal.returns-then-own-says
 unfolding row_question ask
-returns-then-own-says c m r s =
+returns-then-own-says c =
     record {
-      asked = let a = c.args in
+      asked = λ m r s. let a = c.args in
           simp (eq-eqb a.k.others 0 c.if-others-ne0.false, s, ne_eqb a.own a.says c.if-own-says.true);
     }
 
 pub returns-then-is_told_early : goal.returns-then-is_told_early
 unfolding row_question ask
-returns-then-is_told_early c m r s =
+returns-then-is_told_early c =
     record {
-      asked = let a = c.args in
+      asked = λ m r s. let a = c.args in
           simp (
             eq-eqb a.k.others 0 c.if-others-ne0.false,
             s,
@@ -55,10 +55,10 @@ up_to_17 c m r s =
 
 pub returns-then-is_told_both : goal.returns-then-is_told_both
 unfolding ask
-returns-then-is_told_both c m r s =
-    record { asked = simp (up_to_17 c.before m r s, ← c.is_told_both.ensures.tested, c.if-is_told_both.true) }
+returns-then-is_told_both c =
+    record { asked = λ m r s. simp (up_to_17 (goal.at.returns-then-is_told_both c).After-is_told_both m r s, ← c.is_told_both.ensures.tested, c.if-is_told_both.true) }
 
 pub returns : goal.returns
 unfolding ask
-returns c m r s =
-    record { asked = simp (up_to_17 c.before m r s, ← c.is_told_both.ensures.tested, c.if-is_told_both.false) }
+returns c =
+    record { asked = λ m r s. simp (up_to_17 (goal.at.returns c).After-is_told_both m r s, ← c.is_told_both.ensures.tested, c.if-is_told_both.false) }

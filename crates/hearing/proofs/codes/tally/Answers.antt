@@ -11,10 +11,10 @@ returns-then-above-eq0 c =
     record {
       counted = let row = c.args.row.now in
           let low = c.pair_in-estimates.ensures in
-          let none = sym c.if-above-eq0.true ∙ low.1.1 in
+          let none = sym c.if-above-eq0.true ∙ low.above in
           λ j. record {
-            zeros = low.0 j;
-            ones = low.1.0 j;
+            zeros = low.lower j;
+            ones = low.upper j;
             aborts = nothing_above row _ none (λ x l. ne_eqb x 3 (λ e. omega arith)) j;
             commits = nothing_above row _ none (λ x l. ne_eqb x 4 (λ e. omega arith)) j;
             others = nothing_above row _ none (λ x l. le-ltb 4 x (omega arith)) j;
@@ -26,5 +26,5 @@ returns c =
     record {
       counted = let low = c.pair_in-estimates.ensures in
           let high = c.pair_in-decided.ensures in
-          λ j. record { zeros = low.0 j; ones = low.1.0 j; aborts = high.0 j; commits = high.1.0 j; others = high.1.1 j };
+          λ j. record { zeros = low.lower j; ones = low.upper j; aborts = high.lower j; commits = high.upper j; others = high.above j };
     }

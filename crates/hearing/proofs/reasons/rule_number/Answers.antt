@@ -21,16 +21,16 @@ overflow_cast-result c =
 
 pub returns-in-Told : goal.returns-in-Told
 returns-in-Told c =
-    record { is = told_number _ _ c.enum_told-1.given.1 c.lowest_sender.ensures.found }
+    record { is = told_number _ _ c.in-Told.is c.lowest_sender.ensures.found }
 
 pub returns-in-Quiet : goal.returns-in-Quiet
 returns-in-Quiet c =
-    record { is = quiet_number _ _ c.requires.counted c.enum_told-in-Quiet-1.given.1 }
+    record { is = quiet_number _ _ c.requires.counted c.in-Quiet.is }
 
 pub returns-in-RoundT : goal.returns-in-RoundT
 returns-in-RoundT c =
-    record { is = count_number _ _ c.requires.counted c.enum_told-in-RoundT-1.given.1 }
+    record { is = count_number _ _ c.requires.counted c.in-RoundT.is }
 
 pub returns-in_default : goal.returns-in_default
 returns-in_default c =
-    record { is = let a = c.args in no_number a.rule a.n a.row.now c.in_default.keys4 }
+    record { is = let a = c.args in no_number a.rule a.n a.row.now c.in_default-own.keys4 }

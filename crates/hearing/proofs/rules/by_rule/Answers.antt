@@ -7,16 +7,16 @@ use Rattle.hearing.proofs.rules.by_rule.Goals as goal
 pub returns-in-Told : goal.returns-in-Told
 unfolding by_rule
 returns-in-Told c =
-    record { went = simp (c.enum_told-1.given.1, ← c.told_value.ensures.is) c.moved.ensures.went }
+    record { went = simp (c.in-Told.is, ← c.told_value.ensures.is) c.moved.ensures.went }
 
 pub returns-in-NoRule : goal.returns-in-NoRule
 unfolding by_rule
 returns-in-NoRule c =
-    record { went = simp (c.enum_told-in-NoRule-1.given.1, ← c.lower.ensures.is) c.moved-in-NoRule.ensures.went }
+    record { went = simp (c.in-NoRule.is, ← c.lower.ensures.is) c.moved-in-NoRule.ensures.went }
 
 pub returns-in_default : goal.returns-in_default
 returns-in_default c =
     record {
       went = let a = c.args in
-          simp (by_other a.rule a.m a.k c.in_default.keys3, ← c.lower-in_default.ensures.is) c.moved-in_default.ensures.went;
+          simp (by_other a.rule a.m a.k c.in_default-own.keys3, ← c.lower-in_default.ensures.is) c.moved-in_default.ensures.went;
     }

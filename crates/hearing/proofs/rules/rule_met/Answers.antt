@@ -50,12 +50,12 @@ pub returns-then-r-t : goal.returns-then-r-t
 returns-then-r-t c =
     record {
       met = let a = c.args in
-          simp (up_to_last c.before, eq-eqb a.r (a.t + 1) (omega arith));
+          simp (up_to_last (goal.at.returns-then-r-t c).Else-is_enough, eq-eqb a.r (a.t + 1) (omega arith));
     }
 
 pub returns : goal.returns
 returns c =
     record {
       met = let a = c.args in
-          simp (up_to_last c.before, ne_eqb a.r (a.t + 1) c.if-r-t.false);
+          simp (up_to_last (goal.at.returns c).Else-is_enough, ne_eqb a.r (a.t + 1) c.if-r-t.false);
     }

@@ -24,7 +24,7 @@ returns-then-not-is_set c =
 
 pub overflow_add-estimates : goal.overflow_add-estimates
 overflow_add-estimates c =
-    let p = c.requires in omega (arith, estimates_high _ _ p.1.0, p.0)
+    let p = c.requires in omega (arith, estimates_high _ _ p.counted, p.short)
 
 -- the row sets the set
 is_set : (c : Else-not-is_set) → let a = c.args in sets_silent a.m a.k ≡ true
@@ -35,18 +35,18 @@ unfolding silent_after
 returns-then-estimates-row c =
     record {
       left = let p = c.requires in
-          rw (← p.1.0, is_set c.before.before) (silent_nobody _ _ p.1.0 c.if-estimates-row.true);
+          rw (← p.counted, is_set (goal.at.returns-then-estimates-row c).Else-not-is_set) (silent_nobody _ _ p.counted c.if-estimates-row.true);
     }
 
 -- and so its codes are 0, 1 and 2
 low : (c : Else-not-is_set) → let a = c.args in (j : ℕ) → j < length a.row.now → get_or a.row.now j 0 ≤ 2
-low c = let p = c.requires in plain_codes _ _ p.1.0 p.1.1 (sets _ _ (is_set c)).untold
+low c = let p = c.requires in plain_codes _ _ p.counted p.codes (sets _ _ (is_set c)).untold
 
 pub zero_places-requires : goal.zero_places-requires
 zero_places-requires c =
-    record { short = c.requires.short; low = low c.before.before }
+    record { short = c.requires.short; low = low (goal.at.zero_places-requires c).Else-not-is_set }
 
 pub returns : goal.returns
 unfolding silent_after
 returns c =
-    record { left = rw (← c.requires.counted, is_set c.before.before.before) (c.zero_places.ensures.named ∙ silent_zeros c.args.row.now (low c.before.before.before)) }
+    record { left = rw (← c.requires.counted, is_set (goal.at.returns c).Else-not-is_set) (c.zero_places.ensures.named ∙ silent_zeros c.args.row.now (low (goal.at.returns c).Else-not-is_set)) }

@@ -17,7 +17,7 @@ code_at c k = let a = c.before.before.before.args in get_or a.row.now (a.at + k)
 
 -- which is at most 2
 code_low : (c : After-four-2) (k : ℕ) → k < 8 → code_at c k ≤ 2
-code_low c k l = let p = c.requires in p.1 (c.args.at + k) (omega arith)
+code_low c k l = let p = c.requires in p.low (c.args.at + k) (omega arith)
 
 -- the two fours are the eight codes
 codes_are : (c : After-four-2) → c.four.result + c.four-2.result * 16 ≡ joined (code_at c) + joined (λ k. code_at c (4 + k)) * 16

@@ -19,8 +19,8 @@ because c =
 
 pub returns-in_default : goal.returns-in_default
 returns-in_default c =
-    record { reason = absurd (not_accepted (sym (ap explained_is c.enum_told-1.given.1) ∙ because c.before.before)) }
+    record { reason = absurd (not_accepted (sym (ap explained_is c.in_default.is) ∙ because (goal.at.returns-in_default c).After-explain-answer)) }
 
 pub returns : goal.returns
 returns c =
-    record { reason = let g = c.answer-1.given in ap (value_or g.0.0) (sym (ap explained_is g.1) ∙ because c.before.before.before) }
+    record { reason = let g = c.answer-1.given in ap (value_or g.0.0) (sym (ap explained_is g.1) ∙ because (goal.at.returns c).After-explain-answer) }

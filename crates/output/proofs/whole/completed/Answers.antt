@@ -51,15 +51,15 @@ timed c = c.simulate-answer.ensures.simulated.rounds_given ∙ table_given large
 pub returns-in_default : goal.returns-in_default
 returns-in_default c =
     {- LABELS output fits -}
-    absurd (not_accepted (sym (ap simulated_is c.enum_told-1.given.1) ∙ counted c.before.before.before.before.before.before))
+    absurd (not_accepted (sym (ap simulated_is c.in_default.is) ∙ counted (goal.at.returns-in_default c).After-simulate-answer))
 
 -- the counts are numbers of 64 bits
-of_64_bits : (c : In-Completed) → let k = c.answer-1.given.0.0 in (k.f < 2 ^ 64) × (k.first < 2 ^ 64) × (k.last < 2 ^ 64) × (k.messages < 2 ^ 64)
+of_64_bits : (c : In-Completed) → let k = c.in-Completed.counts in (k.f < 2 ^ 64) × (k.first < 2 ^ 64) × (k.last < 2 ^ 64) × (k.messages < 2 ^ 64)
 of_64_bits c = (search rules, search rules, search rules, search rules)
 
 -- what is printed is the report
 -- what is given is shown, and is the report
-all_shown : (c : After-put_report-end) → let s = given c.before.before.before.before.before.before.before.before.before.before.before in let k = c.answer-1.given.0.0 in
+all_shown : (c : After-put_report-end) → let s = given c.before.before.before.before.before.before.before.before.before.before.before in let k = c.in-Completed.counts in
     shown s.t k c.simulate.new.1.1.1.1.1.0 c.simulate.new.1.1.1.1.1.1.0
     ≡ report_text (length c.simulate.new.1.1.1.1.1.0) s.t (given_by k c.simulate.new.1.1.1.1.1.0 c.simulate.new.1.1.1.1.1.1.0)
 all_shown c =
@@ -69,25 +69,25 @@ all_shown c =
     let rounds : length c.simulate.new.1.1.1.1.1.1.0 ≡ s.n = ap length (timed c.before.before.before.before.before.before.before.before.before.before.before) ∙ rounds_long fcwfa s in
     shown_all s.t _ _ _ (rounds ∙ sym long) (ap are_decisions (decided c.before.before.before.before.before.before.before.before.before.before.before) ∙ all_decisions s largest _ pre)
 
-same_text : (c : After-put_report-end) → let s = given c.before.before.before.before.before.before.before.before.before.before.before in let k = c.answer-1.given.0.0 in
+same_text : (c : After-put_report-end) → let s = given c.before.before.before.before.before.before.before.before.before.before.before in let k = c.in-Completed.counts in
     report_text (length c.simulate.new.1.1.1.1.1.0) s.t (given_by k c.simulate.new.1.1.1.1.1.0 c.simulate.new.1.1.1.1.1.1.0)
     ≡ report_text s.n s.t (report fcwfa s)
 same_text c =
     let s = given c.before.before.before.before.before.before.before.before.before.before.before in
     let pre = c.requires.accepted in
-    print_given (report fcwfa s) s.n s.t _ _ _ (ap length (decided c.before.before.before.before.before.before.before.before.before.before.before) ∙ decisions_long fcwfa s) (sym (ap simulated_is c.answer-1.given.1) ∙ counted c.before.before.before.before.before.before.before.before.before.before.before) (decided c.before.before.before.before.before.before.before.before.before.before.before) (timed c.before.before.before.before.before.before.before.before.before.before.before)
+    print_given (report fcwfa s) s.n s.t _ _ _ (ap length (decided c.before.before.before.before.before.before.before.before.before.before.before) ∙ decisions_long fcwfa s) (sym (ap simulated_is c.in-Completed.is) ∙ counted c.before.before.before.before.before.before.before.before.before.before.before) (decided c.before.before.before.before.before.before.before.before.before.before.before) (timed c.before.before.before.before.before.before.before.before.before.before.before)
 
 pub returns : goal.returns
 returns c =
-    let s = given c.before.before.before.before.before.before.before.before.before.before.before.before in
+    let s = given (goal.at.returns c).After-simulate-arg-1 in
     let pre = c.requires.accepted in
-    let k = c.answer-1.given.0.0 in
+    let k = c.in-Completed.counts in
     let n : s.n ≤ largest = n_small s largest _ pre in
-    let long : length c.simulate.new.1.1.1.1.1.0 ≡ s.n = ap length (decided c.before.before.before.before.before.before.before.before.before.before.before.before) ∙ decisions_long fcwfa s in
+    let long : length c.simulate.new.1.1.1.1.1.0 ≡ s.n = ap length (decided (goal.at.returns c).After-simulate-arg-1) ∙ decisions_long fcwfa s in
     let t : s.t < 2 ^ 64 = search rules in
-    let counts = of_64_bits c.before.before.before.before.before in
+    let counts = of_64_bits (goal.at.returns c).In-Completed in
     let rounds = c.simulate.new.1.1.1.1.1.1.0 in
     let each-round : (i : ℕ) → get_or rounds i 0 < 2 ^ 64 = λ i. let b : get_or rounds i 0 < 256 = (c.slice_known-4-1.given i).fits in omega arith in
-    let w = written_output _ _ _ _ c.blank_output-bytes.ensures.zeros (writes_same (all_shown c.before) c.put_report-end.ensures.written)
+    let w = written_output _ _ _ _ c.blank_output-bytes.ensures.zeros (writes_same (all_shown (goal.at.returns c).After-put_report-end) c.put_report-end.ensures.written)
     (report_short _ s.t (given_by k _ rounds) (omega arith) t counts.0 counts.1 counts.2 counts.3 each-round) in
-    record { output = w.0 ∙ ap output_is (same_text c.before); fits = w.1 }
+    record { output = w.0 ∙ ap output_is (same_text (goal.at.returns c).After-put_report-end); fits = w.1 }

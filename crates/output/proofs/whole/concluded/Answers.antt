@@ -31,12 +31,12 @@ decided c = c.conclude-answer.ensures.concluded.answered ∙ outcome_given fcwfa
 pub returns-in_default : goal.returns-in_default
 returns-in_default c =
     {- LABELS output fits -}
-    absurd (not_accepted (sym (ap concluded_is c.enum_told-1.given.1) ∙ decided c.before.before))
+    absurd (not_accepted (sym (ap concluded_is c.in_default.is) ∙ decided (goal.at.returns-in_default c).After-conclude-answer))
 
 pub returns : goal.returns
 returns c =
-    let outcome = c.answer-1.given.0.0 in
-    let same = ap concluded_is c.answer-1.given.1 in
+    let outcome = c.in-Decided.outcome in
+    let same = ap concluded_is c.in-Decided.is in
     let promised = (c.conclude-answer.ensures.concluded.promises.kept outcome same).commit_or_abort in
     let w = written_output _ _ _ _ c.blank_output-bytes.ensures.zeros (writes_same (written_outcome_lem outcome (omega arith)) c.put_outcome-end.ensures.written) (outcome_short _ _ (search rules)) in
-    record { output = w.0 ∙ ap output_is (print_outcome fcwfa (given c.before.before.before.before.before.before) outcome (sym same ∙ decided c.before.before.before.before.before.before)); fits = w.1 }
+    record { output = w.0 ∙ ap output_is (print_outcome fcwfa (given (goal.at.returns c).After-conclude-answer) outcome (sym same ∙ decided (goal.at.returns c).After-conclude-answer)); fits = w.1 }

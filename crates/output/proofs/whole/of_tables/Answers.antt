@@ -37,18 +37,18 @@ returns-in-Report c =
     let a = c.args in
     let s = schedule_of a.n a.t (take a.n a.t4) (take a.n a.t5) (take a.n a.t6) in
     let report = c.report_of_tables.ensures in
-    record { output = report.0 ∙ ap (λ (w : Wanted). output_is (shown_of w s)) (sym c.enum_told-1.given.1); fits = report.1 }
+    record { output = report.output ∙ ap (λ (w : Wanted). output_is (shown_of w s)) (sym c.in-Report.is); fits = report.fits }
 
 pub returns-in-Outcome : goal.returns-in-Outcome
 returns-in-Outcome c =
     let a = c.args in
     let s = schedule_of a.n a.t (take a.n a.t4) (take a.n a.t5) (take a.n a.t6) in
     let outcome = c.concluded.ensures in
-    record { output = outcome.0 ∙ ap (λ (w : Wanted). output_is (shown_of w s)) (sym c.enum_told-in-Outcome-1.given.1); fits = outcome.1 }
+    record { output = outcome.output ∙ ap (λ (w : Wanted). output_is (shown_of w s)) (sym c.in-Outcome.is); fits = outcome.fits }
 
 pub returns-in-Reasons : goal.returns-in-Reasons
 returns-in-Reasons c =
     let a = c.args in
     let s = schedule_of a.n a.t (take a.n a.t4) (take a.n a.t5) (take a.n a.t6) in
     let reasons = c.explained.ensures in
-    record { output = reasons.0 ∙ ap (λ (w : Wanted). output_is (shown_of w s)) (sym c.enum_told-in-Reasons-1.given.1); fits = reasons.1 }
+    record { output = reasons.output ∙ ap (λ (w : Wanted). output_is (shown_of w s)) (sym c.in-Reasons.is); fits = reasons.fits }

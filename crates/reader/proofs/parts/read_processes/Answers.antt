@@ -20,7 +20,7 @@ use Rattle.forms.proofs.LineForms.{entry_up_to}
 use Rattle.reader.specs.Parts.{Table}
 use Rattle.reader.proofs.Entries.{line_wrong, entry_is, entry_refused, entry_passed}
 use Rattle.reader.proofs.parts.read_processes.Goals as goal
-use Rattle.reader.proofs.parts.read_processes.Goals.{After-process_question-number, After-read_process, In-Process-2}
+use Rattle.reader.proofs.parts.read_processes.Goals.{After-process_question-number, After-read_process, In-Process}
 
 pub loop-i-init : goal.loop-i-init
 loop-i-init c =
@@ -35,8 +35,8 @@ entry_read d =
     let i = d.loop-i.i in
     let pre = d.requires in
     d.read_process.ensures.read
-    ∙ ap value_of (entry_up_to largest a.n i d.from.result.now pre.0.0)
-    ∙ ap (λ (n : ℕ). value_of (entry_at n i d.from.result.now)) (sym pre.0.1)
+    ∙ ap value_of (entry_up_to largest a.n i d.from.result.now pre.sizes.0)
+    ∙ ap (λ (n : ℕ). value_of (entry_at n i d.from.result.now)) (sym pre.sizes.1)
     ∙ ap (λ (part : List ℕ). value_of (entry_at (sizes_in a.text.now).n i part)) (part_after a.text.now (i + 3) d.from.ensures.part d.loop-i.invariant.1)
 
 -- the lines before were passed, so the first that is not gives the answer
@@ -49,19 +49,19 @@ first_refused d number e =
 
 pub returns-in_default : goal.returns-in_default
 returns-in_default c =
-    record { asked = first_refused c.before.before 9 (line_wrong _ _ (sym (ap process_is c.enum_told-1.given.1) ∙ entry_read c.before.before)); entries = tt }
+    record { asked = first_refused (goal.at.returns-in_default c).After-read_process 9 (line_wrong _ _ (sym (ap process_is c.in_default.is) ∙ entry_read (goal.at.returns-in_default c).After-read_process)); entries = tt }
 
 -- the values of the line, and their questions
-entry : In-Process-2 → Entry
+entry : In-Process → Entry
 entry c = record { vote = c.vote.given.0.0; crash = c.vote.given.0.1.0; reach = c.vote.given.0.1.1.0 }
 
-entry_values : (c : In-Process-2) → let a = c.args in let i = c.loop-i.i in
+entry_values : (c : In-Process) → let a = c.args in let i = c.loop-i.i in
     some (entry c) ≡ value_of (entry_at (sizes_in a.text.now).n i (after_lines (i + 3) a.text.now))
 unfolding entry
-entry_values c = sym (ap process_is c.vote-1.given.1) ∙ entry_read c.before.before
+entry_values c = sym (ap process_is c.in-Process.is) ∙ entry_read c.before.before
 
 -- its place is one of the n that the text has
-place_below : (c : In-Process-2) → c.loop-i.i < (sizes_in c.args.text.now).n
+place_below : (c : In-Process) → c.loop-i.i < (sizes_in c.args.text.now).n
 place_below c =
     let n : (sizes_in c.args.text.now).n ≡ c.args.n = c.requires.sizes.1 in
     omega arith
@@ -76,7 +76,7 @@ asked c =
 
 pub returns-then-number-ne0 : goal.returns-then-number-ne0
 returns-then-number-ne0 c =
-    record { asked = first_refused c.before.before.before.before.before _ (entry_refused _ _ (entry c.before.before.before) (entry_values c.before.before.before) (place_below c.before.before.before) _ (asked c.before) c.if-number-ne0.true); entries = tt }
+    record { asked = first_refused (goal.at.returns-then-number-ne0 c).After-read_process _ (entry_refused _ _ (entry (goal.at.returns-then-number-ne0 c).In-Process) (entry_values (goal.at.returns-then-number-ne0 c).In-Process) (place_below (goal.at.returns-then-number-ne0 c).In-Process) _ (asked (goal.at.returns-then-number-ne0 c).After-process_question-number) c.if-number-ne0.true); entries = tt }
 
 pub loop-i-preserved : goal.loop-i-preserved
 unfolding entry
@@ -84,11 +84,11 @@ loop-i-preserved c =
     let text = c.args.text.now in
     let i = c.loop-i.i in
     let small : c.args.n ≤ largest = c.requires.sizes.0 in
-    let same = entry_is text i (entry c.before.before.before.before) (entry_values c.before.before.before.before) in
+    let same = entry_is text i (entry (goal.at.loop-i-preserved c).In-Process) (entry_values (goal.at.loop-i-preserved c).In-Process) in
     let next : c.next_line-at.result ≡ start_of text (after_lines (i + 3 + 1) text) = lines_more text (i + 3) c.loop-i.at c.next_line-at.result c.loop-i.invariant.1 c.next_line-at.ensures.next in (
       omega arith,
       next ∙ ap (λ (j : ℕ). start_of text (after_lines j text)) (omega arith),
-      below_more (λ j. entry_questions text j ≡ accepted tt) i c.loop-i.invariant.2 (entry_passed text i (entry c.before.before.before.before) (entry_values c.before.before.before.before) (place_below c.before.before.before.before) _ (asked c.before.before) c.if-number-ne0.false),
+      below_more (λ j. entry_questions text j ≡ accepted tt) i c.loop-i.invariant.2 (entry_passed text i (entry (goal.at.loop-i-preserved c).In-Process) (entry_values (goal.at.loop-i-preserved c).In-Process) (place_below (goal.at.loop-i-preserved c).In-Process) _ (asked (goal.at.loop-i-preserved c).After-process_question-number) c.if-number-ne0.false),
       each_more (omega arith) c.loop-i.invariant.3 (ap (λ (x : Entry). x.vote) same),
       each_more (omega arith) c.loop-i.invariant.4 (ap (λ (x : Entry). x.crash) same),
       each_more (omega arith) c.loop-i.invariant.5 (ap (λ (x : Entry). x.reach) same),

@@ -23,7 +23,7 @@ pub returns-then-line_start-text : goal.returns-then-line_start-text
 returns-then-line_start-text c =
     record {
       asked = let a = c.args in
-          let s = starts c.before in
+          let s = starts (goal.at.returns-then-line_start-text c).After-line_start in
           tail_9 _ _ _ _ (ne_eqb (length (after_lines (a.n + 3) a.text.now)) 0 (λ e. omega arith));
     }
 
@@ -46,12 +46,12 @@ pub returns-then-t-counted : goal.returns-then-t-counted
 returns-then-t-counted c =
     record {
       asked = let t = c.args.t in
-          tail_7 _ _ _ _ (ended c.before.before.before) (few c.before.before ∙ lt-leb c.crash_count-counted.result.count t (omega arith));
+          tail_7 _ _ _ _ (ended (goal.at.returns-then-t-counted c).Else-line_start-text) (few (goal.at.returns-then-t-counted c).After-crash_count-counted ∙ lt-leb c.crash_count-counted.result.count t (omega arith));
     }
 
 pub returns : goal.returns
 returns c =
     record {
       asked = let t = c.args.t in
-          tail_passed _ _ _ _ (ended c.before.before.before) (few c.before.before ∙ le-leb c.crash_count-counted.result.count t (omega arith));
+          tail_passed _ _ _ _ (ended (goal.at.returns c).Else-line_start-text) (few (goal.at.returns c).After-crash_count-counted ∙ le-leb c.crash_count-counted.result.count t (omega arith));
     }

@@ -18,7 +18,7 @@ returns-in_default c =
     record {
       read = let a = c.args in
           let pre = c.requires in
-          let told = ap asked_is c.enum_told-in_default-1.given.1 in
+          let told = ap asked_is c.in_default.is in
           let e = lines_refuse a.text.now a.n a.t pre.0.1 pre.0.2 (sym c.read_processes-processes.ensures.asked ∙ told) in
           record { asked = told ∙ sym e; votes_read = keeps _ _ e; crashes_read = keeps _ _ e; reaches_read = keeps _ _ e };
     }
@@ -26,7 +26,7 @@ returns-in_default c =
 -- what was read, where the questions of the lines are passed
 tables_read : (c : In-Passed) → let a = c.args in
     EntriesRead Passed a.text.now a.n c.read_processes-processes.new.1.1.1.0 c.read_processes-processes.new.1.1.1.1.0 c.read_processes-processes.new.1.1.1.1.1.0
-tables_read c = entries _ _ _ _ _ _ c.enum_told-1.given.1 c.read_processes-processes.ensures.entries
+tables_read c = entries _ _ _ _ _ _ c.in-Passed.is c.read_processes-processes.ensures.entries
 
 front_long : (c : After-own_crashes-3-1) → let a = c.args in length (take a.n c.read_processes-processes.new.1.1.1.1.0) ≡ a.n
 front_long c =
@@ -49,14 +49,14 @@ tail_asked c =
     let pre = c.requires in
     let own = c.read_processes-processes.new.1.1.1.1.0 in
     c.read_tail-tail.ensures.asked
-    ∙ lines_pass a.text.now a.n a.t pre.0.1 pre.0.2 (sym c.read_processes-processes.ensures.asked ∙ ap asked_is c.enum_told-1.given.1) _
+    ∙ lines_pass a.text.now a.n a.t pre.0.1 pre.0.2 (sym c.read_processes-processes.ensures.asked ∙ ap asked_is c.in-Passed.is) _
     (read_crashes a.text.now a.n a.t pre.0.1 pre.0.2 own pre.0.0 (tables_read c.before.before).1)
 
 pub returns-in_default-tail : goal.returns-in_default-tail
 returns-in_default-tail c =
     record {
-      read = let told = ap asked_is c.enum_told-in_default-tail-1.given.1 in
-          let e = sym (tail_asked c.before.before) ∙ told in
+      read = let told = ap asked_is c.in_default-tail.is in
+          let e = sym (tail_asked (goal.at.returns-in_default-tail c).After-read_tail-tail) ∙ told in
           record { asked = told ∙ sym e; votes_read = keeps _ _ e; crashes_read = keeps _ _ e; reaches_read = keeps _ _ e };
     }
 
@@ -65,8 +65,8 @@ returns c =
     record {
       read = let a = c.args in
           let pre = c.requires in
-          let tables = tables_read c.before.before.before.before.before.before.before.before.before.before.before.before.before.before in
-          let e = sym (tail_asked c.before.before.before.before.before.before.before.before.before.before.before.before) ∙ ap asked_is c.enum_told-in-Passed-tail-1.given.1 in
+          let tables = tables_read (goal.at.returns c).In-Passed in
+          let e = sym (tail_asked (goal.at.returns c).After-read_tail-tail) ∙ ap asked_is c.in-Passed-tail.is in
           let votes = read_votes a.text.now a.n a.t pre.0.1 pre.0.2 _ pre.0.0 tables.0 in
           let crashes = read_crashes a.text.now a.n a.t pre.0.1 pre.0.2 _ pre.0.0 tables.1 in
           let reaches = read_reaches a.text.now a.n a.t pre.0.1 pre.0.2 _ pre.0.0 tables.2 in
