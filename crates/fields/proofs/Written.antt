@@ -155,10 +155,10 @@ module _ (end : ℕ) where
   unfolding number_field
   number_written text x rest e =
       let tens = found_unless x rest (not (is_digit (get_or text 0 0))) _ e in
-      let is_digit = not-false (is_digit (get_or text 0 0)) tens.0 in
+      let first = not-false (is_digit (get_or text 0 0)) tens.0 in
       elim (true_or_false (is_digit (get_or text 1 0))) [
         | inl units ↦
             let two = found_unless x rest (eqb (get_or text 0 0) (letter 0)) _ (sym (cond_false (not (is_digit (get_or text 1 0))) _ _ (ap not units)) ∙ tens.1) in
-            two_written text x rest is_digit units (eqb-false (get_or text 0 0) (letter 0) two.0) two.1
-        | inr units ↦ one_written text x rest is_digit (sym (cond_true (not (is_digit (get_or text 1 0))) _ _ (ap not units)) ∙ tens.1)
+            two_written text x rest first units (eqb-false (get_or text 0 0) (letter 0) two.0) two.1
+        | inr units ↦ one_written text x rest first (sym (cond_true (not (is_digit (get_or text 1 0))) _ _ (ap not units)) ∙ tens.1)
       ]

@@ -11,11 +11,11 @@ use Rattle.member.specs.declared.Rule.TheVariants.{Told, ZerosOnly, Quiet, Round
 use Rattle.member.specs.Hearing.{moved, lowered, by_rule}
 
 -- the four rules between the first and none
-pub by_other : (rule : Rule) (m : Member) (k : Tally) → OneOf (1 ∷ 2 ∷ 3 ∷ 4 ∷ []) (tag_of the_type rule) → by_rule rule m k ≡ moved m (lowered m.estimate k) m.round
+pub by_other : (rule : Rule) (m : Member) (k : Tally) → (rule ≡ Told → ⊥) → (rule ≡ NoRule → ⊥) → by_rule rule m k ≡ moved m (lowered m.estimate k) m.round
 unfolding by_rule
-by_other Told m k h = absurd (miss (1 ∷ 2 ∷ 3 ∷ 4 ∷ []) 0 tt h)
-by_other ZerosOnly m k h = refl
-by_other Quiet m k h = refl
-by_other RoundT m k h = refl
-by_other LastRound m k h = refl
-by_other NoRule m k h = absurd (miss (1 ∷ 2 ∷ 3 ∷ 4 ∷ []) 5 tt h)
+by_other Told m k p q = absurd (p refl)
+by_other ZerosOnly m k p q = refl
+by_other Quiet m k p q = refl
+by_other RoundT m k p q = refl
+by_other LastRound m k p q = refl
+by_other NoRule m k p q = absurd (q refl)

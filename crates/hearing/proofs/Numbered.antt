@@ -35,14 +35,14 @@ module _ (n : ℕ) (row : List ℕ) {rule : Rule} where
     count_number e = rw (e, counted)
 
 -- the rules that have none
-pub no_number : (rule : Rule) (n : ℕ) (row : List ℕ) → OneOf (1 ∷ 4 ∷ 5 ∷ []) (tag_of the_type rule) → 0 ≡ rule_number rule n row
+pub no_number : (rule : Rule) (n : ℕ) (row : List ℕ) → (rule ≡ Told → ⊥) → (rule ≡ Quiet → ⊥) → (rule ≡ RoundT → ⊥) → 0 ≡ rule_number rule n row
 unfolding rule_number
-no_number Told n row h = absurd (miss (1 ∷ 4 ∷ 5 ∷ []) 0 tt h)
-no_number ZerosOnly n row h = refl
-no_number Quiet n row h = absurd (miss (1 ∷ 4 ∷ 5 ∷ []) 2 tt h)
-no_number RoundT n row h = absurd (miss (1 ∷ 4 ∷ 5 ∷ []) 3 tt h)
-no_number LastRound n row h = refl
-no_number NoRule n row h = refl
+no_number Told n row p q r = absurd (p refl)
+no_number ZerosOnly n row p q r = refl
+no_number Quiet n row p q r = absurd (q refl)
+no_number RoundT n row p q r = absurd (r refl)
+no_number LastRound n row p q r = refl
+no_number NoRule n row p q r = refl
 
 -- a rule and its number are the reason
 pub reason_is : (m : Member) (row : List ℕ) {k : Tally} → k ≡ tally_of row → {rule : Rule} {number : ℕ} → rule ≡ rule_heard m k → number ≡ rule_number rule m.n row

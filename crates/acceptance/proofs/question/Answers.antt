@@ -25,11 +25,11 @@ returns-then-sizes-ne0 c =
 -- the schedule that is asked about, past questions 1 and 2, and whether the answer tables are n long
 abbrev given : Else-sizes-ne0 → Schedule
 given c =
-    let a = c.before.before.before.before.before.args in
+    let a = c.args in
     schedule_of a.n a.t a.votes.now a.crashes.now a.reaches.now
 
 abbrev answers : Else-sizes-ne0 → Bool
-answers c = let a = c.before.before.before.before.before.args in answers_of a.n a.decisions a.rounds
+answers c = let a = c.args in answers_of a.n a.decisions a.rounds
 
 pub returns-then-not-are_of_size : goal.returns-then-not-are_of_size
 returns-then-not-are_of_size c =
@@ -39,15 +39,15 @@ returns-then-not-are_of_size c =
     }
 
 -- the three input tables are n long
-tables : (c : Else-not-are_of_size) → tables_long (given c.before.before) ≡ true
+tables : (c : Else-not-are_of_size) → tables_long (given (goal.at.Else-not-are_of_size c).Else-sizes-ne0) ≡ true
 tables c = was_true c.are_of_size.ensures.tested c.if-not-are_of_size.false
 
-lengths : (c : Else-not-are_of_size) → let s = given c.before.before in (length s.votes ≡ s.n) × (length s.crashes ≡ s.n) × (length s.reaches ≡ s.n)
-lengths c = table_lengths (given c.before.before) (tables c)
+lengths : (c : Else-not-are_of_size) → let s = given (goal.at.Else-not-are_of_size c).Else-sizes-ne0 in (length s.votes ≡ s.n) × (length s.crashes ≡ s.n) × (length s.reaches ≡ s.n)
+lengths c = table_lengths (given (goal.at.Else-not-are_of_size c).Else-sizes-ne0) (tables c)
 
 -- so number 3 goes by the answer tables
-by_answers : (c : Else-not-are_of_size) → answers c.before.before ≡ (tables_long (given c.before.before) && answers c.before.before)
-by_answers c = and_goes_on (tables_long (given c.before.before)) (answers c.before.before) (tables c)
+by_answers : (c : Else-not-are_of_size) → answers (goal.at.Else-not-are_of_size c).Else-sizes-ne0 ≡ (tables_long (given (goal.at.Else-not-are_of_size c).Else-sizes-ne0) && answers (goal.at.Else-not-are_of_size c).Else-sizes-ne0)
+by_answers c = and_goes_on (tables_long (given (goal.at.Else-not-are_of_size c).Else-sizes-ne0)) (answers (goal.at.Else-not-are_of_size c).Else-sizes-ne0) (tables c)
 
 pub returns-then-not-are_answers_long : goal.returns-then-not-are_answers_long
 returns-then-not-are_answers_long c =
@@ -57,8 +57,8 @@ returns-then-not-are_answers_long c =
     }
 
 -- question 3 is passed
-all_long : (c : Else-not-are_answers_long) → (tables_long (given c.before.before.before.before) && answers c.before.before.before.before) ≡ true
-all_long c = sym (by_answers c.before.before) ∙ was_true c.are_answers_long.ensures.tested c.if-not-are_answers_long.false
+all_long : (c : Else-not-are_answers_long) → (tables_long (given (goal.at.Else-not-are_answers_long c).Else-sizes-ne0) && answers (goal.at.Else-not-are_answers_long c).Else-sizes-ne0) ≡ true
+all_long c = sym (by_answers (goal.at.Else-not-are_answers_long c).Else-not-are_of_size) ∙ was_true c.are_answers_long.ensures.tested c.if-not-are_answers_long.false
 
 pub processes_question-number-requires : goal.processes_question-number-requires
 processes_question-number-requires c =
@@ -69,15 +69,15 @@ returns-then-number-ne0 c =
     record { asked = number_of_process (given (goal.at.returns-then-number-ne0 c).Else-sizes-ne0) _ _ _ c.size_question-sizes.ensures.asked c.if-sizes-ne0.false (all_long (goal.at.returns-then-number-ne0 c).Else-not-are_answers_long) _ c.processes_question-number.ensures.asked c.if-number-ne0.true }
 
 -- past the first six questions; the table of crash rounds is n long, so the count answers question 7
-up_to_7 : (c : After-crash_count-counted) → question (given c.before.before.before.before.before.before.before) largest (answers c.before.before.before.before.before.before.before) ≡ ask (leb c.crash_count-counted.result.count (given c.before.before.before.before.before.before.before).t) 7 0
+up_to_7 : (c : After-crash_count-counted) → question (given (goal.at.After-crash_count-counted c).Else-sizes-ne0) largest (answers (goal.at.After-crash_count-counted c).Else-sizes-ne0) ≡ ask (leb c.crash_count-counted.result.count (given (goal.at.After-crash_count-counted c).Else-sizes-ne0).t) 7 0
 up_to_7 c =
-    let t = (given c.before.before.before.before.before.before.before).t in
-    let crashes = (given c.before.before.before.before.before.before.before).crashes in
+    let t = (given (goal.at.After-crash_count-counted c).Else-sizes-ne0).t in
+    let crashes = (given (goal.at.After-crash_count-counted c).Else-sizes-ne0).crashes in
     let few =
-    ap (λ (n : ℕ). leb (crashes_in n crashes) t) (sym (lengths c.before.before.before.before.before).1)
+    ap (λ (n : ℕ). leb (crashes_in n crashes) t) (sym (lengths (goal.at.After-crash_count-counted c).Else-not-are_of_size).1)
     ∙ (count_facts t crashes).asks_7
     ∙ ap (λ (k : ℕ). leb k t) (sym c.crash_count-counted.ensures.counted) in
-    past_processes (given c.before.before.before.before.before.before.before) _ _ _ c.size_question-sizes.ensures.asked c.if-sizes-ne0.false (all_long c.before.before.before) _ c.processes_question-number.ensures.asked c.if-number-ne0.false
+    past_processes (given (goal.at.After-crash_count-counted c).Else-sizes-ne0) _ _ _ c.size_question-sizes.ensures.asked c.if-sizes-ne0.false (all_long (goal.at.After-crash_count-counted c).Else-not-are_answers_long) _ c.processes_question-number.ensures.asked c.if-number-ne0.false
     ∙ ap (λ (b : Bool). ask b 7 0) few
 
 pub returns-then-t-counted : goal.returns-then-t-counted

@@ -19,7 +19,6 @@ returns-in-Moved c =
 pub returns-in-Refused : goal.returns-in-Refused
 unfolding hear_answer
 returns-in-Refused c =
-    {- LABELS number state_after -}
     let a = c.args in
     answer_kept _ _ _ state_bytes _
     (ap heard_is (sym c.in-Refused.is) ∙ c.hear-answer.ensures.answered ∙ ap (λ m. hear_answer largest m a.row.now) c.state_in.ensures.is)

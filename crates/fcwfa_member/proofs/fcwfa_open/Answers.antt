@@ -15,5 +15,4 @@ returns-in-Started c =
 pub returns-in-Refused : goal.returns-in-Refused
 unfolding open_answer
 returns-in-Refused c =
-    {- LABELS number state_after -}
-    answer_kept _ _ tt state_bytes _ (ap opened_is (sym c.in-Refused.is) ∙ c.before.before.before.«open».ensures)
+    let all = answer_kept _ _ tt state_bytes _ (ap opened_is (sym c.in-Refused.is) ∙ c.before.before.before.«open».ensures) in record { number = all.0; state_after = all.1 }

@@ -16,7 +16,7 @@ returns-then-not-is_digit c =
     let a = c.args in
     let first = c.byte_at-first in
     let none : is_digit first.result ≡ false = was_false c.is_digit.ensures.tested c.if-not-is_digit.true in
-    record { read = sym (digit_none a.end a.text.now first.result first.ensures none); within = tt }
+    record { read = sym (digit_none a.end a.text.now first.result first.ensures.read none); within = tt }
 
 -- the first byte is a digit
 digit : (c : Else-not-is_digit) → is_digit c.byte_at-first.result ≡ true
@@ -31,4 +31,4 @@ returns c =
     let a = c.args in
     let first = c.byte_at-first in
     let read : field_is a.text.now c.ended.result ≡ ended a.end a.text.now (first.result - letter 0) 1 = c.ended.ensures.read in
-    record { read = read ∙ sym (digit_one a.end a.text.now first.result first.ensures (digit (goal.at.returns c).Else-not-is_digit)); within = c.ended.ensures.within }
+    record { read = read ∙ sym (digit_one a.end a.text.now first.result first.ensures.read (digit (goal.at.returns c).Else-not-is_digit)); within = c.ended.ensures.within }

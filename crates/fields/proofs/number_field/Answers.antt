@@ -16,7 +16,7 @@ returns-then-not-is_digit c =
     let a = c.args in
     let first = c.byte_at-first in
     let none : is_digit first.result ≡ false = was_false c.is_digit.ensures.tested c.if-not-is_digit.true in
-    record { read = sym (number_none a.end a.text.now first.result first.ensures none); within = tt }
+    record { read = sym (number_none a.end a.text.now first.result first.ensures.read none); within = tt }
 
 -- the first byte is a digit
 digit_first : (c : Else-not-is_digit) → is_digit c.byte_at-first.result ≡ true
@@ -33,7 +33,7 @@ returns-then-not-is_digit-2 c =
     let second = c.byte_at-second in
     let alone : is_digit second.result ≡ false = was_false c.is_digit-2.ensures.tested c.if-not-is_digit-2.true in
     let read : field_is a.text.now c.ended.result ≡ ended a.end a.text.now (first.result - letter 0) 1 = c.ended.ensures.read in
-    record { read = read ∙ sym (number_one a.end a.text.now first.result first.ensures second.result second.ensures (digit_first (goal.at.returns-then-not-is_digit-2 c).Else-not-is_digit) alone); within = c.ended.ensures.within }
+    record { read = read ∙ sym (number_one a.end a.text.now first.result first.ensures.read second.result second.ensures.read (digit_first (goal.at.returns-then-not-is_digit-2 c).Else-not-is_digit) alone); within = c.ended.ensures.within }
 
 -- so is the second
 digit_second : (c : Else-not-is_digit-2) → is_digit c.byte_at-second.result ≡ true
@@ -45,14 +45,14 @@ returns-then-first-eq48 c =
     let first = c.byte_at-first in
     let second = c.byte_at-second in
     let zero-first : first.result ≡ letter 0 = omega arith in
-    record { read = sym (number_zero a.end a.text.now first.result first.ensures second.result second.ensures (digit_first (goal.at.returns-then-first-eq48 c).Else-not-is_digit) (digit_second (goal.at.returns-then-first-eq48 c).Else-not-is_digit-2) zero-first); within = tt }
+    record { read = sym (number_zero a.end a.text.now first.result first.ensures.read second.result second.ensures.read (digit_first (goal.at.returns-then-first-eq48 c).Else-not-is_digit) (digit_second (goal.at.returns-then-first-eq48 c).Else-not-is_digit-2) zero-first); within = tt }
 
 -- both bytes as digits
 digits : (c : Else-first-eq48)
     → let first = c.byte_at-first.result in
     let second = c.byte_at-second.result in
     ((letter 0 ≤ first) × (first ≤ letter 9)) × ((letter 0 ≤ second) × (second ≤ letter 9))
-digits c = (digit_within _ (digit_first c.before.before.before.before), digit_within _ (digit_second c.before))
+digits c = (digit_within _ (digit_first (goal.at.Else-first-eq48 c).Else-not-is_digit), digit_within _ (digit_second (goal.at.Else-first-eq48 c).Else-not-is_digit-2))
 
 pub overflow_sub-first-2 : goal.overflow_sub-first-2
 overflow_sub-first-2 c =
@@ -76,4 +76,4 @@ returns c =
     let first = c.byte_at-first in
     let second = c.byte_at-second in
     let read : field_is a.text.now c.ended-2.result ≡ ended a.end a.text.now (10 * (first.result - letter 0) + (second.result - letter 0)) 2 = c.ended-2.ensures.read in
-    record { read = read ∙ sym (number_two a.end a.text.now first.result first.ensures second.result second.ensures (digit_first (goal.at.returns c).Else-not-is_digit) (digit_second (goal.at.returns c).Else-not-is_digit-2) (λ z. omega arith)); within = c.ended-2.ensures.within }
+    record { read = read ∙ sym (number_two a.end a.text.now first.result first.ensures.read second.result second.ensures.read (digit_first (goal.at.returns c).Else-not-is_digit) (digit_second (goal.at.returns c).Else-not-is_digit-2) (λ z. omega arith)); within = c.ended-2.ensures.within }

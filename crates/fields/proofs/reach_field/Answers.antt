@@ -24,7 +24,7 @@ pub returns-then-letter_count-n : goal.returns-then-letter_count-n
 returns-then-letter_count-n c =
     let a = c.args in
     let letters = c.letter_count in
-    record { read = sym (reach_letters a.end a.text.now largest a.n letters.result letters.ensures (omega arith) (λ e. omega arith)); within = tt }
+    record { read = sym (reach_letters a.end a.text.now largest a.n letters.result letters.ensures.counted (omega arith) (λ e. omega arith)); within = tt }
 
 -- every letter is right, so what is left to ask is the end
 all_right : (c : Else-letter_count-n)
@@ -33,7 +33,7 @@ all_right : (c : Else-letter_count-n)
 all_right c =
     let a = c.args in
     let letters = c.letter_count in
-    reach_ended a.end a.text.now largest a.n letters.result letters.ensures (omega arith) (omega arith)
+    reach_ended a.end a.text.now largest a.n letters.result letters.ensures.counted (omega arith) (omega arith)
 
 pub returns-then-not-has_byte : goal.returns-then-not-has_byte
 returns-then-not-has_byte c =
@@ -48,7 +48,7 @@ there c = was_true c.has_byte.ensures.tested c.if-not-has_byte.false
 pub reach_value-requires : goal.reach_value-requires
 reach_value-requires c =
     let letters = c.letter_count in
-    record { width = omega arith; letters = sym letters.ensures ∙ c.if-letter_count-n.false }
+    record { width = omega arith; letters = sym letters.ensures.counted ∙ c.if-letter_count-n.false }
 
 pub returns : goal.returns
 returns c =

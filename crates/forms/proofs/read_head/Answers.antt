@@ -25,16 +25,16 @@ use Rattle.forms.proofs.read_head.Goals.{After-read_heading-2, After-read_sizes,
 
 -- the text that is read, at each place where something is known of it
 abbrev text1 : Else-text-gt-LONGEST → List ℕ
-text1 c = c.before.before.args.text.now
+text1 c = c.args.text.now
 
 abbrev text2 : In-Heading → List ℕ
-text2 c = text1 c.before.before.before.before
+text2 c = text1 (goal.at.In-Heading c).After-read_heading-arg-1
 
 abbrev text3 : In-Sized → List ℕ
-text3 c = text2 c.before.before.before.before.before
+text3 c = text2 (goal.at.In-Sized c).In-Heading
 
 abbrev text4 : Else-number-ne0 → List ℕ
-text4 c = text3 c.before.before.before
+text4 c = text3 (goal.at.Else-number-ne0 c).In-Sized
 
 pub returns-then-text-gt-LONGEST : goal.returns-then-text-gt-LONGEST
 returns-then-text-gt-LONGEST c =
@@ -53,13 +53,13 @@ first : (c : In-Heading) → starts_with sizes_heading (text2 c) ≡ true
 first c = sym c.read_heading.ensures.read ∙ ap heading_is c.in-Heading.is
 
 short2 : (c : In-Heading) → leb (length (text2 c)) longest ≡ true
-short2 c = short c.before.before.before.before
+short2 c = short (goal.at.In-Heading c).After-read_heading-arg-1
 
 -- line 2 is read
-second : (c : After-read_sizes) → sizes_is c.read_sizes.result ≡ value_of (sizes_at (after_lines 1 (text2 c.before.before.before)))
+second : (c : After-read_sizes) → sizes_is c.read_sizes.result ≡ value_of (sizes_at (after_lines 1 (text2 (goal.at.After-read_sizes c).In-Heading)))
 second c =
     c.read_sizes.ensures.read
-    ∙ ap (λ (part : List ℕ). value_of (sizes_at part)) (part_after (text2 c.before.before.before) 1 c.from.ensures.part c.line_start.ensures.start)
+    ∙ ap (λ (part : List ℕ). value_of (sizes_at part)) (part_after (text2 (goal.at.After-read_sizes c).In-Heading) 1 c.from.ensures.part c.line_start.ensures.start)
 
 pub returns-in_default-read_sizes : goal.returns-in_default-read_sizes
 returns-in_default-read_sizes c =
@@ -67,24 +67,24 @@ returns-in_default-read_sizes c =
 
 -- the two values are those of the text
 values : (c : In-Sized) → some (record { n = c.in-Sized.n; t = c.in-Sized.t }) ≡ value_of (sizes_at (after_lines 1 (text3 c)))
-values c = sym (ap sizes_is c.in-Sized.is) ∙ second c.before.before
+values c = sym (ap sizes_is c.in-Sized.is) ∙ second (goal.at.In-Sized c).After-read_sizes
 
 of_its_form : (c : In-Sized) → is_found (sizes_at (after_lines 1 (text3 c))) ≡ true
 of_its_form c = is_found_lem (sizes_at (after_lines 1 (text3 c))) (values c)
 
-sizes : (c : After-size_question-number) → let text = text3 c.before.before in c.size_question-number.result ≡ size_questions largest (sizes_in text).n (sizes_in text).t 0
+sizes : (c : After-size_question-number) → let text = text3 (goal.at.After-size_question-number c).In-Sized in c.size_question-number.result ≡ size_questions largest (sizes_in text).n (sizes_in text).t 0
 sizes c =
     c.size_question-number.ensures.asked
-    ∙ ap (λ (s : Sizes). size_questions largest s.n s.t 0) (found_value (record { n = 0; t = 0 }) (sizes_at (after_lines 1 (text3 c.before.before))) (values c.before.before))
+    ∙ ap (λ (s : Sizes). size_questions largest s.n s.t 0) (found_value (record { n = 0; t = 0 }) (sizes_at (after_lines 1 (text3 (goal.at.After-size_question-number c).In-Sized))) (values (goal.at.After-size_question-number c).In-Sized))
 
 pub returns-then-number-ne0 : goal.returns-then-number-ne0
 returns-then-number-ne0 c =
     record { asked = head_sizes _ _ _ _ (short2 (goal.at.returns-then-number-ne0 c).In-Heading) (first (goal.at.returns-then-number-ne0 c).In-Heading) (of_its_form (goal.at.returns-then-number-ne0 c).In-Sized) _ (sizes (goal.at.returns-then-number-ne0 c).After-size_question-number) c.if-number-ne0.true }
 
 -- line 3 is compared
-third : (c : After-read_heading-2) → starts_with processes_heading (after_lines 2 (text4 c.before.before.before.before)) ≡ heading_is c.read_heading-2.result
+third : (c : After-read_heading-2) → starts_with processes_heading (after_lines 2 (text4 (goal.at.After-read_heading-2 c).After-line_start-2)) ≡ heading_is c.read_heading-2.result
 third c =
-    let part = part_after (text4 c.before.before.before.before) 2 c.from-third.ensures.part c.line_start-2.ensures.start in
+    let part = part_after (text4 (goal.at.After-read_heading-2 c).After-line_start-2) 2 c.from-third.ensures.part c.line_start-2.ensures.start in
     sym (c.read_heading-2.ensures.read ∙ ap (starts_with processes_heading) part)
 
 pub returns-in_default-read_heading : goal.returns-in_default-read_heading

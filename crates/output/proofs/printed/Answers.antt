@@ -39,7 +39,7 @@ of_tables-requires c =
 -- the text is refused
 refuses : (c : In-Refused) → text_answer c.args.text.now largest longest ≡ refused c.in-Refused.number c.in-Refused.k
 refuses c =
-    text_refused largest longest _ _ _ _ (sized c.before.before.before.before.before) (sym (ap reading_is c.in-Refused.is) ∙ c.read-reading.ensures.read.answered)
+    text_refused largest longest _ _ _ _ (sized (goal.at.In-Refused c).After-read-reading) (sym (ap reading_is c.in-Refused.is) ∙ c.read-reading.ensures.read.answered)
 
 pub refused-requires : goal.refused-requires
 refused-requires c =

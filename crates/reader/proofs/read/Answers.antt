@@ -42,7 +42,7 @@ passed_head : (c : In-Passed) → let a = c.args in let text = a.text.now in
     × (c.in-Passed.n ≤ largest)
 passed_head c =
     let a = c.args in
-    head_passed a.text.now largest longest a.votes.now a.crashes.now a.reaches.now (sized c.before.before.before) (sym (ap head_is c.in-Passed.is) ∙ c.read_head.ensures.asked)
+    head_passed a.text.now largest longest a.votes.now a.crashes.now a.reaches.now (sized (goal.at.In-Passed c).Else-not-are_of_size) (sym (ap head_is c.in-Passed.is) ∙ c.read_head.ensures.asked)
 
 pub read_rest-requires : goal.read_rest-requires
 read_rest-requires c =
@@ -65,7 +65,7 @@ returns-in-Refused c =
 
 -- what the rest answers is answered, and the tables are as it left them
 answered_by_rest : (c : After-read_rest) → let a = c.args in asked_is c.read_rest.result ≡ read_questions largest longest a.text.now a.votes.now a.crashes.now a.reaches.now
-answered_by_rest c = c.read_rest.ensures.read.asked ∙ sym (passed_head c.before.before.before.before.before).0
+answered_by_rest c = c.read_rest.ensures.read.asked ∙ sym (passed_head (goal.at.After-read_rest c).In-Passed).0
 
 pub returns-in-Refused-read_rest : goal.returns-in-Refused-read_rest
 returns-in-Refused-read_rest c =

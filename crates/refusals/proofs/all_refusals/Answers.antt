@@ -12,4 +12,4 @@ use Rattle.refusals.proofs.all_refusals.Goals as goal
 pub returns : goal.returns
 unfolding within sum count fold ask and_then ask_each names crashes_in tables_of reach_right entry_question question
 returns c =
-    refl
+    record { refused = refl }

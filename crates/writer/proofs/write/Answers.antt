@@ -17,7 +17,7 @@ use Rattle.writer.proofs.write.Goals.{After-question-number, After-text_length, 
 
 -- the schedule of the call, and the number of its first question whose answer is no
 abbrev given : After-question-number → Schedule
-given c = let a = c.before.before.before.before.before.args in schedule_of a.n a.t a.votes.now a.crashes.now a.reaches.now
+given c = let a = c.args in schedule_of a.n a.t a.votes.now a.crashes.now a.reaches.now
 
 asked : (c : After-question-number) → c.question-number.result ≡ question (given c) largest true
 asked c =
@@ -32,8 +32,8 @@ returns-then-number-ne0 c =
     }
 
 -- no table question is left
-passed : (c : Else-number-ne0) → question (given c.before) largest true ≡ 0
-passed c = sym (asked c.before) ∙ c.if-number-ne0.false
+passed : (c : Else-number-ne0) → question (given (goal.at.Else-number-ne0 c).After-question-number) largest true ≡ 0
+passed c = sym (asked (goal.at.Else-number-ne0 c).After-question-number) ∙ c.if-number-ne0.false
 
 pub text_length-requires : goal.text_length-requires
 text_length-requires c =
@@ -41,8 +41,8 @@ text_length-requires c =
     record { small = (ok.n_high, ok.rules.t_high); long = (ok.votes_long, ok.crashes_long) }
 
 -- the length of the text
-its_length : (c : After-text_length) → c.text_length.result ≡ length (text_of (given c.before.before))
-its_length c = c.text_length.ensures.is ∙ sym (text_long (given c.before.before))
+its_length : (c : After-text_length) → c.text_length.result ≡ length (text_of (given (goal.at.After-text_length c).After-question-number))
+its_length c = c.text_length.ensures.is ∙ sym (text_long (given (goal.at.After-text_length c).After-question-number))
 
 pub returns-then-buffer-text_length : goal.returns-then-buffer-text_length
 returns-then-buffer-text_length c =

@@ -31,7 +31,7 @@ loop-i-preserved c =
     let here = c.loop-i in
     let t = a.t in
     let crashes = a.crashes.now in
-    let few : here.count ≤ t = leb-true here.count t c.if-count-t.true in (
+    let few : here.count ≤ t = c.if-count-t.true in (
       omega arith,
       counts_on t crashes _ _ _ here.invariant.1 c.bit.ensures.counted,
       goes_on t crashes _ _ _ here.invariant.1 c.bit.ensures.counted (omega arith) few,
@@ -42,7 +42,7 @@ pub returns-else-count-t : goal.returns-else-count-t
 returns-else-count-t c =
     let a = c.args in
     let here = c.loop-i in
-    let many : a.t < here.count = leb-false here.count a.t c.if-count-t.false in
+    let many : a.t < here.count = c.if-count-t.false in
     let end : here.i ≡ looked_at a.t a.crashes.now = elim here.invariant.2 [ inl few ↦ absurd (omega arith) | inr end ↦ end ] in
     record { counted = here.invariant.1 ∙ counted_up_to a.t a.crashes.now here.i end; looked_at = end }
 

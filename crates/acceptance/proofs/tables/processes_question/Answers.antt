@@ -15,14 +15,6 @@ unfolding ask_each fold
 loop-i-init c =
     (omega arith, refl)
 
-shared-slice-read-process-question-2 :
-    tie.Need-shared-slice-read-process-question-2 invariant-loop decreases-loop
-shared-slice-read-process-question-2 c = omega arith
-
-shared-slice-read-process-question-3 :
-    tie.Need-shared-slice-read-process-question-3 invariant-loop decreases-loop
-shared-slice-read-process-question-3 c = omega arith
-
 pub loop-i-preserved : goal.loop-i-preserved
 loop-i-preserved c =
     let found = c.loop-i.invariant.1 in

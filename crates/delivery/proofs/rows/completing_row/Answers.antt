@@ -38,5 +38,5 @@ returns c =
           let a = c.args in
           let known = c.recorded-known in
           let end : l.j ≡ known.result = omega arith in
-          completing_rest a.round a.n known.result a.crashes.now a.codes.now l.row known.ensures (over_all l.invariant.1 end) c.with_rest.ensures.whole;
+          completing_rest a.round a.n known.result a.crashes.now a.codes.now l.row known.ensures.less (over_all l.invariant.1 end) c.with_rest.ensures.whole;
     }

@@ -13,8 +13,7 @@ decide_on-requires c =
 
 pub returns-then-n-le-FEW : goal.returns-then-n-le-FEW
 returns-then-n-le-FEW c =
-    {- LABELS decided passed -}
-    c.decide_on.ensures
+    let all = c.decide_on.ensures in record { decided = all.0; passed = all.1 }
 
 pub decide_on-requires-2 : goal.decide_on-requires-2
 decide_on-requires-2 c =
@@ -26,5 +25,4 @@ decide_on-requires-2 c =
 
 pub returns : goal.returns
 returns c =
-    {- LABELS decided passed -}
-    c.decide_on-2.ensures
+    let all = c.decide_on-2.ensures in record { decided = all.0; passed = all.1 }

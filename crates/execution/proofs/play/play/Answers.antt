@@ -14,8 +14,7 @@ play_on-requires c =
 
 pub returns-then-n-le-FEW : goal.returns-then-n-le-FEW
 returns-then-n-le-FEW c =
-    {- LABELS played passed -}
-    c.play_on.ensures
+    let all = c.play_on.ensures in record { played = all.0; passed = all.1 }
 
 pub play_on-requires-2 : goal.play_on-requires-2
 play_on-requires-2 c =
@@ -27,5 +26,4 @@ play_on-requires-2 c =
 
 pub returns : goal.returns
 returns c =
-    {- LABELS played passed -}
-    c.play_on-2.ensures
+    let all = c.play_on-2.ensures in record { played = all.0; passed = all.1 }

@@ -10,11 +10,9 @@ use Rattle.laws.specs.Test.{within}
 use Rattle.laws.specs.Below.{bit, count}
 use Rattle.laws.proofs.Below.{count_none, count_step, count_room, count_end}
 use Rattle.fields.specs.Decimal.{letter}
+use Rattle.fields.proofs.letters.letter_count.Invariants.{is_bit}
 use Rattle.fields.proofs.letters.letter_count.Goals as goal
 use Rattle.fields.proofs.letters.letter_count.Goals.{After-bit}
-
-abbrev is_bit : List ℕ → ℕ → Bool
-is_bit text j = within (letter 0) (get_or text j 0) (letter 1)
 
 pub loop-j-init : goal.loop-j-init
 loop-j-init c =

@@ -12,8 +12,11 @@ use Rattle.laws.proofs.Below.{count_none, count_step, count_room, count_end}
 use Rattle.fields.specs.Decimal.{letter}
 use Rattle.fields.proofs.letters.letter_count.Given as goal
 
+abbrev pub is_bit : List ℕ → ℕ → Bool
+is_bit text j = within (letter 0) (get_or text j 0) (letter 1)
+
 abbrev pub invariant-loop-j : goal.invariant-loop-j
-invariant-loop-j l = (l.j ≤ l.n) × (l.k ≡ count l.j (isBit l.text))
+invariant-loop-j l = (l.j ≤ l.n) × (l.k ≡ count l.j (is_bit l.text))
 
 abbrev pub decreases-loop-j : goal.decreases-loop-j
 decreases-loop-j l = l.n - l.j

@@ -12,11 +12,9 @@ use Rattle.sets.specs.Largest.{largest}
 use Rattle.sets.proofs.Theorem.{width_facts}
 use Rattle.fields.specs.Decimal.{letter}
 use Rattle.fields.proofs.Bits.{letter_at, reach_below}
+use Rattle.fields.proofs.letters.reach_value.Invariants.{bit_at}
 use Rattle.fields.proofs.letters.reach_value.Goals as goal
 use Rattle.fields.proofs.letters.reach_value.Goals.{After-byte_at-digit}
-
-abbrev bit_at : List ℕ → ℕ → ℕ
-bit_at text j = (get_or text j 0 - letter 0) * 2 ^ j
 
 pub loop-j-init : goal.loop-j-init
 loop-j-init c =

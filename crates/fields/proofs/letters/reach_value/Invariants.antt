@@ -14,6 +14,9 @@ use Rattle.fields.specs.Decimal.{letter}
 use Rattle.fields.proofs.Bits.{letter_at, reach_below}
 use Rattle.fields.proofs.letters.reach_value.Given as goal
 
+abbrev pub bit_at : List ℕ → ℕ → ℕ
+bit_at text j = (get_or text j 0 - letter 0) * 2 ^ j
+
 abbrev pub invariant-loop-j : goal.invariant-loop-j
 invariant-loop-j l = (l.j ≤ l.n) × (l.reach ≡ sum l.j (bit_at l.text))
 

@@ -39,6 +39,6 @@ loop-i-preserved c =
 
 pub returns : goal.returns
 returns c =
-    {- LABELS lower upper above -}
     let at = c.loop-i in
-    rw (← at.invariant.0) (counted_all _ _ _ _ _ _ _ _ at.invariant.2 at.invariant.1 c.loop-i-test.false)
+    let all = counted_all _ _ _ _ _ _ _ _ at.invariant.2 at.invariant.1 c.loop-i-test.false in
+    record { lower = all.0; upper = rw (← at.invariant.0) all.1.0; above = rw (← at.invariant.0) all.1.1 }

@@ -33,4 +33,4 @@ returns-in-RoundT c =
 
 pub returns-in_default : goal.returns-in_default
 returns-in_default c =
-    record { is = let a = c.args in no_number a.rule a.n a.row.now c.in_default-own.keys4 }
+    record { is = let a = c.args in no_number a.rule a.n a.row.now c.in_default.not-Told c.in_default.not-Quiet c.in_default.not-RoundT }

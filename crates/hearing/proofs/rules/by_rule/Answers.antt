@@ -18,5 +18,5 @@ pub returns-in_default : goal.returns-in_default
 returns-in_default c =
     record {
       went = let a = c.args in
-          simp (by_other a.rule a.m a.k c.in_default-own.keys3, ← c.lower-in_default.ensures.is) c.moved-in_default.ensures.went;
+          simp (by_other a.rule a.m a.k c.in_default.not-Told c.in_default.not-NoRule, ← c.lower-in_default.ensures.is) c.moved-in_default.ensures.went;
     }

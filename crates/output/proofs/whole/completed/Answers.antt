@@ -27,15 +27,15 @@ use Rattle.output.proofs.whole.completed.Goals.{After-put_report-end, After-simu
 -- the schedule that is run
 abbrev given : After-simulate-answer → Schedule
 given c =
-    let a = c.before.before.before.before.before.before.before.before.before.args in
+    let a = c.args in
     schedule_of a.n a.t a.votes.now a.crashes.now a.reaches.now
 
 -- and the two tables that are lent for it
 abbrev lent_decisions : After-simulate-answer → List ℕ
-lent_decisions c = c.before.before.before.before.before.before.before.before.before.args.decisions.now
+lent_decisions c = c.args.decisions.now
 
 abbrev lent_rounds : After-simulate-answer → List ℕ
-lent_rounds c = c.before.before.before.before.before.before.before.before.before.args.decided.now
+lent_rounds c = c.args.decided.now
 
 -- it is accepted, so the simulator gives the counts of its report
 counted : (c : After-simulate-answer) → simulated_is c.simulate-answer.result ≡ accepted (counts_of (report fcwfa (given c)))
@@ -50,8 +50,7 @@ timed c = c.simulate-answer.ensures.simulated.rounds_given ∙ table_given large
 
 pub returns-in_default : goal.returns-in_default
 returns-in_default c =
-    {- LABELS output fits -}
-    absurd (not_accepted (sym (ap simulated_is c.in_default.is) ∙ counted (goal.at.returns-in_default c).After-simulate-answer))
+    let all = absurd (not_accepted (sym (ap simulated_is c.in_default.is) ∙ counted (goal.at.returns-in_default c).After-simulate-answer)) in record { output = all.0; fits = all.1 }
 
 -- the counts are numbers of 64 bits
 of_64_bits : (c : In-Completed) → let k = c.in-Completed.counts in (k.f < 2 ^ 64) × (k.first < 2 ^ 64) × (k.last < 2 ^ 64) × (k.messages < 2 ^ 64)
@@ -59,23 +58,23 @@ of_64_bits c = (search rules, search rules, search rules, search rules)
 
 -- what is printed is the report
 -- what is given is shown, and is the report
-all_shown : (c : After-put_report-end) → let s = given c.before.before.before.before.before.before.before.before.before.before.before in let k = c.in-Completed.counts in
+all_shown : (c : After-put_report-end) → let s = given (goal.at.After-put_report-end c).After-simulate-arg-1 in let k = c.in-Completed.counts in
     shown s.t k c.simulate.new.1.1.1.1.1.0 c.simulate.new.1.1.1.1.1.1.0
     ≡ report_text (length c.simulate.new.1.1.1.1.1.0) s.t (given_by k c.simulate.new.1.1.1.1.1.0 c.simulate.new.1.1.1.1.1.1.0)
 all_shown c =
-    let s = given c.before.before.before.before.before.before.before.before.before.before.before in
+    let s = given (goal.at.After-put_report-end c).After-simulate-arg-1 in
     let pre = c.requires.accepted in
-    let long : length c.simulate.new.1.1.1.1.1.0 ≡ s.n = ap length (decided c.before.before.before.before.before.before.before.before.before.before.before) ∙ decisions_long fcwfa s in
-    let rounds : length c.simulate.new.1.1.1.1.1.1.0 ≡ s.n = ap length (timed c.before.before.before.before.before.before.before.before.before.before.before) ∙ rounds_long fcwfa s in
-    shown_all s.t _ _ _ (rounds ∙ sym long) (ap are_decisions (decided c.before.before.before.before.before.before.before.before.before.before.before) ∙ all_decisions s largest _ pre)
+    let long : length c.simulate.new.1.1.1.1.1.0 ≡ s.n = ap length (decided (goal.at.After-put_report-end c).After-simulate-arg-1) ∙ decisions_long fcwfa s in
+    let rounds : length c.simulate.new.1.1.1.1.1.1.0 ≡ s.n = ap length (timed (goal.at.After-put_report-end c).After-simulate-arg-1) ∙ rounds_long fcwfa s in
+    shown_all s.t _ _ _ (rounds ∙ sym long) (ap are_decisions (decided (goal.at.After-put_report-end c).After-simulate-arg-1) ∙ all_decisions s largest _ pre)
 
-same_text : (c : After-put_report-end) → let s = given c.before.before.before.before.before.before.before.before.before.before.before in let k = c.in-Completed.counts in
+same_text : (c : After-put_report-end) → let s = given (goal.at.After-put_report-end c).After-simulate-arg-1 in let k = c.in-Completed.counts in
     report_text (length c.simulate.new.1.1.1.1.1.0) s.t (given_by k c.simulate.new.1.1.1.1.1.0 c.simulate.new.1.1.1.1.1.1.0)
     ≡ report_text s.n s.t (report fcwfa s)
 same_text c =
-    let s = given c.before.before.before.before.before.before.before.before.before.before.before in
+    let s = given (goal.at.After-put_report-end c).After-simulate-arg-1 in
     let pre = c.requires.accepted in
-    print_given (report fcwfa s) s.n s.t _ _ _ (ap length (decided c.before.before.before.before.before.before.before.before.before.before.before) ∙ decisions_long fcwfa s) (sym (ap simulated_is c.in-Completed.is) ∙ counted c.before.before.before.before.before.before.before.before.before.before.before) (decided c.before.before.before.before.before.before.before.before.before.before.before) (timed c.before.before.before.before.before.before.before.before.before.before.before)
+    print_given (report fcwfa s) s.n s.t _ _ _ (ap length (decided (goal.at.After-put_report-end c).After-simulate-arg-1) ∙ decisions_long fcwfa s) (sym (ap simulated_is c.in-Completed.is) ∙ counted (goal.at.After-put_report-end c).After-simulate-arg-1) (decided (goal.at.After-put_report-end c).After-simulate-arg-1) (timed (goal.at.After-put_report-end c).After-simulate-arg-1)
 
 pub returns : goal.returns
 returns c =

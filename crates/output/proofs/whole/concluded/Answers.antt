@@ -21,7 +21,7 @@ use Rattle.output.proofs.whole.concluded.Goals.{After-conclude-answer}
 -- the schedule that is concluded
 abbrev given : After-conclude-answer → Schedule
 given c =
-    let a = c.before.before.before.before.before.args in
+    let a = c.args in
     schedule_of a.n a.t a.votes.now a.crashes.now a.reaches.now
 
 -- it is accepted, so the simulator gives its outcome
@@ -30,8 +30,7 @@ decided c = c.conclude-answer.ensures.concluded.answered ∙ outcome_given fcwfa
 
 pub returns-in_default : goal.returns-in_default
 returns-in_default c =
-    {- LABELS output fits -}
-    absurd (not_accepted (sym (ap concluded_is c.in_default.is) ∙ decided (goal.at.returns-in_default c).After-conclude-answer))
+    let all = absurd (not_accepted (sym (ap concluded_is c.in_default.is) ∙ decided (goal.at.returns-in_default c).After-conclude-answer)) in record { output = all.0; fits = all.1 }
 
 pub returns : goal.returns
 returns c =

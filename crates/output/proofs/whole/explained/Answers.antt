@@ -13,7 +13,6 @@ use Rattle.output.proofs.whole.explained.Goals as goal
 pub returns : goal.returns
 unfolding reasons_text
 returns c =
-    {- LABELS output fits -}
     let a = c.args in
     let s = schedule_of a.n a.t a.votes.now a.crashes.now a.reaches.now in
     let lines = c.put_reasons-end.ensures in

@@ -13,7 +13,6 @@ use Rattle.output.proofs.whole.refused.Goals as goal
 
 pub returns : goal.returns
 returns c =
-    {- LABELS output fits -}
     let a = c.args in
     let short : length (line_of a.k a.text.now) ≤ longest = c.requires.short in
     let line = c.line.ensures.part in

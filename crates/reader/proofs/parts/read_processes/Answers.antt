@@ -53,12 +53,12 @@ returns-in_default c =
 
 -- the values of the line, and their questions
 entry : In-Process → Entry
-entry c = record { vote = c.vote.given.0.0; crash = c.vote.given.0.1.0; reach = c.vote.given.0.1.1.0 }
+entry c = record { vote = c.in-Process.vote; crash = c.in-Process.crash; reach = c.in-Process.reach }
 
 entry_values : (c : In-Process) → let a = c.args in let i = c.loop-i.i in
     some (entry c) ≡ value_of (entry_at (sizes_in a.text.now).n i (after_lines (i + 3) a.text.now))
 unfolding entry
-entry_values c = sym (ap process_is c.in-Process.is) ∙ entry_read c.before.before
+entry_values c = sym (ap process_is c.in-Process.is) ∙ entry_read (goal.at.In-Process c).After-read_process
 
 -- its place is one of the n that the text has
 place_below : (c : In-Process) → c.loop-i.i < (sizes_in c.args.text.now).n
@@ -67,12 +67,12 @@ place_below c =
     omega arith
 
 asked : (c : After-process_question-number) → let text = c.args.text.now in
-    c.process_question-number.result ≡ entry_question (sizes_in text).n (sizes_in text).t c.loop-i.i (entry c.before.before).vote (entry c.before.before).crash (entry c.before.before).reach
+    c.process_question-number.result ≡ entry_question (sizes_in text).n (sizes_in text).t c.loop-i.i (entry (goal.at.After-process_question-number c).In-Process).vote (entry (goal.at.After-process_question-number c).In-Process).crash (entry (goal.at.After-process_question-number c).In-Process).reach
 unfolding entry
 asked c =
     let pre = c.requires in
     c.process_question-number.ensures.asked
-    ∙ ap₂ (λ (n t : ℕ). entry_question n t c.loop-i.i (entry c.before.before).vote (entry c.before.before).crash (entry c.before.before).reach) (sym pre.0.1) (sym pre.0.2)
+    ∙ ap₂ (λ (n t : ℕ). entry_question n t c.loop-i.i (entry (goal.at.After-process_question-number c).In-Process).vote (entry (goal.at.After-process_question-number c).In-Process).crash (entry (goal.at.After-process_question-number c).In-Process).reach) (sym pre.0.1) (sym pre.0.2)
 
 pub returns-then-number-ne0 : goal.returns-then-number-ne0
 returns-then-number-ne0 c =

@@ -31,7 +31,7 @@ returns-then-line_start-text c =
 ended : (c : Else-line_start-text) → let a = c.args in eqb (length (after_lines (a.n + 3) a.text.now)) 0 ≡ true
 ended c =
     let a = c.args in
-    let s = starts c.before in
+    let s = starts (goal.at.Else-line_start-text c).After-line_start in
     eq-eqb (length (after_lines (a.n + 3) a.text.now)) 0 (omega arith)
 
 -- the table of crash rounds is n long, so the count answers question 7

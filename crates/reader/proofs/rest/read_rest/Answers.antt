@@ -31,7 +31,7 @@ tables_read c = entries _ _ _ _ _ _ c.in-Passed.is c.read_processes-processes.en
 front_long : (c : After-own_crashes-3-1) → let a = c.args in length (take a.n c.read_processes-processes.new.1.1.1.1.0) ≡ a.n
 front_long c =
     let a = c.args in
-    let long = (tables_read c.before).1.long in
+    let long = (tables_read (goal.at.After-own_crashes-3-1 c).In-Passed).1.long in
     length-take-le a.n c.read_processes-processes.new.1.1.1.1.0 (omega arith)
 
 pub slice_bounds-read_tail-end : goal.slice_bounds-read_tail-end
@@ -50,7 +50,7 @@ tail_asked c =
     let own = c.read_processes-processes.new.1.1.1.1.0 in
     c.read_tail-tail.ensures.asked
     ∙ lines_pass a.text.now a.n a.t pre.0.1 pre.0.2 (sym c.read_processes-processes.ensures.asked ∙ ap asked_is c.in-Passed.is) _
-    (read_crashes a.text.now a.n a.t pre.0.1 pre.0.2 own pre.0.0 (tables_read c.before.before).1)
+    (read_crashes a.text.now a.n a.t pre.0.1 pre.0.2 own pre.0.0 (tables_read (goal.at.After-read_tail-tail c).In-Passed).1)
 
 pub returns-in_default-tail : goal.returns-in_default-tail
 returns-in_default-tail c =

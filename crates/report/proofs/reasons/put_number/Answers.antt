@@ -36,8 +36,8 @@ with NoRule number h = refl
 
 pub returns-in-ZerosOnly : goal.returns-in-ZerosOnly
 returns-in-ZerosOnly c =
-    record { written = writes_same (without _ _ c.in-ZerosOnly-own.keys1) c.put.ensures.written }
+    record { written = writes_same (without _ _ c.in-ZerosOnly.in-ZerosOnly-own.keys1) c.put.ensures.written }
 
 pub returns-in-Told : goal.returns-in-Told
 returns-in-Told c =
-    record { written = writes_same (with _ _ c.in-Told-own.keys2) c.put_field.ensures.written }
+    record { written = writes_same (with _ _ c.in-Told.in-Told-own.keys2) c.put_field.ensures.written }
