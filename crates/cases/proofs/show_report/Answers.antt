@@ -9,7 +9,7 @@ use Rattle.buffer.proofs.Written.{writes_inside}
 use Rattle.cases.proofs.show_report.Goals as goal
 use Rattle.cases.proofs.show_report.Goals.{After-put_report-end}
 
-inside : (c : After-put_report-end) → c.put_report-end.result ≤ length c.put_report-end.new.0
+inside : (c : After-put_report-end) → c.put_report-end.result ≤ length c.put_report-end.new.bytes
 inside c = let w = writes_inside c.put_report-end.ensures.written zero-le in let place = w.0 in let long = w.1 in omega arith
 
 pub slice_bounds-bytes-end : goal.slice_bounds-bytes-end

@@ -28,7 +28,7 @@ accepts c = sym (ap reading_is c.in-Read.is) ∙ c.read-reading.ensures.read.ans
 
 -- and its schedule stands in the first n entries of the tables
 schedule : (c : In-Read) → let n = c.in-Read.n in let t = c.in-Read.t in
-    schedule_of n t (take n c.read-reading.new.1.0) (take n c.read-reading.new.1.1.0) (take n c.read-reading.new.1.1.1.0) ≡ schedule_in c.args.text.now
+    schedule_of n t (take n c.read-reading.new.votes) (take n c.read-reading.new.crashes) (take n c.read-reading.new.reaches) ≡ schedule_in c.args.text.now
 schedule c =
     schedule_read_lem largest longest _ _ _ _ (accepts c) _ _ _ c.read-reading.ensures.read.votes_read c.read-reading.ensures.read.crashes_read c.read-reading.ensures.read.reaches_read
 

@@ -13,15 +13,15 @@ pub in_turn-requires : goal.in_turn-requires
 in_turn-requires c =
     record {
       in_range = let a = c.args in
-          opened_in_range a.n a.t a.id a.vote (ap opened_is (sym c.in-Started.is) ∙ c.before.before.before.«open».ensures);
+          opened_in_range a.n a.t a.id a.vote (ap opened_is (sym c.in-Started.is) ∙ c.open-answer.ensures.answered);
     }
 
 pub returns-in-Started : goal.returns-in-Started
 unfolding open_answer
 returns-in-Started c =
-    let opened = ap opened_is (sym c.in-Started.is) ∙ c.before.before.before.before.«open».ensures in record { state = c.in_turn.ensures.state ∙ (answer_given _ _ _ (λ (x : Member). x) nobody opened).1; said = c.in_turn.ensures.said ∙ ap calls.says (sym c.in_turn.ensures.state) }
+    let opened = ap opened_is (sym c.in-Started.is) ∙ c.open-answer.ensures.answered in record { state = c.in_turn.ensures.state ∙ (answer_given _ _ _ (λ (x : Member). x) nobody opened).1; said = c.in_turn.ensures.said ∙ ap calls.says (sym c.in_turn.ensures.state) }
 
 pub returns-in-Refused : goal.returns-in-Refused
 unfolding open_answer
 returns-in-Refused c =
-    let refused = ap opened_is (sym c.in-Refused.is) ∙ c.before.before.before.«open».ensures in record { state = c.no_member.ensures.none ∙ (answer_kept _ _ _ (λ (x : Member). x) nobody refused).1; said = nobody_says ∙ ap calls.says (sym c.no_member.ensures.none) }
+    let refused = ap opened_is (sym c.in-Refused.is) ∙ c.open-answer.ensures.answered in record { state = c.no_member.ensures.none ∙ (answer_kept _ _ _ (λ (x : Member). x) nobody refused).1; said = nobody_says ∙ ap calls.says (sym c.no_member.ensures.none) }

@@ -11,10 +11,6 @@ pub decide_on-requires : goal.decide_on-requires
 decide_on-requires c =
     record { accepted = c.requires.accepted; size = omega arith }
 
-pub returns-then-n-le-FEW : goal.returns-then-n-le-FEW
-returns-then-n-le-FEW c =
-    let all = c.decide_on.ensures in record { decided = all.0; passed = all.1 }
-
 pub decide_on-requires-2 : goal.decide_on-requires-2
 decide_on-requires-2 c =
     let a = c.args in
@@ -23,6 +19,3 @@ decide_on-requires-2 c =
     let n_high = (question_accepted s largest true pre).n_high in
     record { accepted = pre; size = omega arith }
 
-pub returns : goal.returns
-returns c =
-    let all = c.decide_on-2.ensures in record { decided = all.0; passed = all.1 }

@@ -16,19 +16,19 @@ returns-then-m-ne0 c =
     record {
       found = let a = c.args in
           let at = c.loop-i in
-          lowest_is a.n a.t2 at.i at.invariant.0 at.invariant.1 (λ _. c.if-m-ne0.true);
+          lowest_is a.n a.members at.i at.invariant.0 at.invariant.1 (λ _. c.if-m-ne0.true);
     }
 
 pub loop-i-preserved : goal.loop-i-preserved
 loop-i-preserved c =
     let a = c.args in
     let at = c.loop-i in
-    (omega arith, λ k l. below_or_top (λ j. round_of a.t2 j ≡ 0) at.i at.invariant.1 c.if-m-ne0.false k (omega arith))
+    (omega arith, λ k l. below_or_top (λ j. round_of a.members j ≡ 0) at.i at.invariant.1 c.if-m-ne0.false k (omega arith))
 
 pub returns : goal.returns
 returns c =
     record {
       found = let a = c.args in
           let before = c.loop-i.invariant.1 in
-          lowest_is a.n a.t2 a.n (omega arith) (λ i l. before i (omega arith)) (λ l. absurd (omega arith));
+          lowest_is a.n a.members a.n (omega arith) (λ i l. before i (omega arith)) (λ l. absurd (omega arith));
     }

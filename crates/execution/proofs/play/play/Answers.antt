@@ -12,10 +12,6 @@ play_on-requires c =
     let pre = c.requires in
     record { accepted = pre.accepted; rounds = pre.rounds; size = omega arith }
 
-pub returns-then-n-le-FEW : goal.returns-then-n-le-FEW
-returns-then-n-le-FEW c =
-    let all = c.play_on.ensures in record { played = all.0; passed = all.1 }
-
 pub play_on-requires-2 : goal.play_on-requires-2
 play_on-requires-2 c =
     let a = c.args in
@@ -24,6 +20,3 @@ play_on-requires-2 c =
     let n_high = (question_accepted s largest true pre.accepted).n_high in
     record { accepted = pre.accepted; rounds = pre.rounds; size = omega arith }
 
-pub returns : goal.returns
-returns c =
-    let all = c.play_on-2.ensures in record { played = all.0; passed = all.1 }

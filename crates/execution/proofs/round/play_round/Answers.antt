@@ -15,10 +15,9 @@ use Rattle.run.specs.Protocol.{nobody}
 use Rattle.run.specs.Run.{state_at, state_after}
 use Rattle.execution.specs.Calls.{calls}
 use Rattle.execution.proofs.OneRound.{all_heard, plays_round, all_said}
+use Rattle.execution.proofs.round.play_round.Invariants.{heard_at}
 use Rattle.execution.proofs.round.play_round.Goals as goal
-
-abbrev heard_at : ℕ → List ℕ → List (List ℕ) → ℕ → List Member → ℕ → Member
-heard_at round crashes grid size members k = state_after calls round (get_or crashes k 0) (state_at members k) (take size (get_or grid k []))
+use Rattle.execution.proofs.round.play_round.Goals.{After-byte_at}
 
 pub loop-i-init : goal.loop-i-init
 loop-i-init c =
@@ -33,13 +32,11 @@ bounds-grid-i c =
 
 pub slice_bounds-next_turn-end : goal.slice_bounds-next_turn-end
 slice_bounds-next_turn-end c =
-    let long = c.row-in-loop-i-1.given.0 in sym (length-take-le _ _ (omega arith))
+    let long = c.row-in-loop-i-1.given in sym (length-take-le _ _ (omega arith))
 
 -- the member and the code at place i are those that were given
-member_here : (c : tie.After-next-turn-arg invariant-loop decreases-loop)
-    → let l = c.before.before.before.before.before.before.before.loop in
-    state_at l.members l.i ≡ state_at c.before.before.before.before.before.before.before.before.before.before.before.before.before.before.before.args.t3 l.i
-member_here c = let l = c.before.before.before.before.before.before.before.loop in over_past l.invariant.2 l.i nobody (omega arith)
+member_here : (c : After-byte_at) → let l = c.loop-i in state_at l.members l.i ≡ state_at c.args.members l.i
+member_here c = let l = c.loop-i in over_past l.invariant.2 l.i nobody (omega arith)
 
 pub next_turn-turn-requires : goal.next_turn-turn-requires
 next_turn-turn-requires c =
@@ -47,7 +44,7 @@ next_turn-turn-requires c =
       said_before = let l = c.loop-i in
           over_past l.invariant.3 l.i 0 (omega arith)
           ∙ c.requires.said_before l.i (omega arith)
-          ∙ ap calls.says (sym (member_here c));
+          ∙ ap calls.says (sym (member_here (goal.at.next_turn-turn-requires c).After-byte_at));
     }
 
 pub loop-i-preserved : goal.loop-i-preserved
@@ -58,7 +55,7 @@ loop-i-preserved c =
     let turn = c.next_turn-turn.ensures in
     let state =
     turn.state
-    ∙ ap₂ (λ (crash : ℕ) (m : Member). state_after calls a.round crash m (take size (get_or c.deliver.new.1.1.1.1.1.0 at.i [])))
+    ∙ ap₂ (λ (crash : ℕ) (m : Member). state_after calls a.round crash m (take size (get_or c.deliver.new.grid at.i [])))
     c.byte_at.ensures.entry (member_here (goal.at.loop-i-preserved c).After-byte_at)
     in (
       at.invariant.0,
@@ -75,4 +72,4 @@ returns c =
     let pre = c.requires in
     let at = c.loop-i in
     let delivered = c.deliver.ensures.delivered pre.room.0 in
-    let hears = all_heard calls a.n a.round a.crashes.now c.deliver.new.1.1.1.1.1.0 at.invariant.0 (omega arith) at.invariant.2 in record { played = plays_round calls (fitting a.n) a.round (λ j. get_or a.codes.now j 0) a.crashes.now a.reaches.now delivered pre.said_before hears; said = all_said calls a.n a.round a.crashes.now c.deliver.new.1.1.1.1.1.0 at.invariant.0 (omega arith) hears at.invariant.3 }
+    let hears = all_heard calls a.n a.round a.crashes.now c.deliver.new.grid at.invariant.0 (omega arith) at.invariant.2 in record { played = plays_round calls (fitting a.n) a.round (λ j. get_or a.codes.now j 0) a.crashes.now a.reaches.now delivered pre.said_before hears; said = all_said calls a.n a.round a.crashes.now c.deliver.new.grid at.invariant.0 (omega arith) hears at.invariant.3 }

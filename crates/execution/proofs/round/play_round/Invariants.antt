@@ -17,12 +17,15 @@ use Rattle.execution.specs.Calls.{calls}
 use Rattle.execution.proofs.OneRound.{all_heard, plays_round, all_said}
 use Rattle.execution.proofs.round.play_round.Given as goal
 
+abbrev pub heard_at : ℕ → List ℕ → List (List ℕ) → ℕ → List Member → ℕ → Member
+heard_at round crashes grid size members k = state_after calls round (get_or crashes k 0) (state_at members k) (take size (get_or grid k []))
+
 abbrev pub invariant-loop-i : goal.invariant-loop-i
 invariant-loop-i l =
     (l.size ≡ fitting l.n)
     × (l.i ≤ l.size)
-    × Overwritten l.i (heardAt l.round l.crashes l.grid l.size l.initial.members) l.initial.members l.members
-    × Overwritten l.i (λ k. calls.says (heardAt l.round l.crashes l.grid l.size l.initial.members k)) l.initial.codes l.codes
+    × Overwritten l.i (heard_at l.round l.crashes l.grid l.size l.initial.members) l.initial.members l.members
+    × Overwritten l.i (λ k. calls.says (heard_at l.round l.crashes l.grid l.size l.initial.members k)) l.initial.codes l.codes
     × (length l.initial.members ≡ largest)
     × (l.size ≤ length l.initial.codes)
 

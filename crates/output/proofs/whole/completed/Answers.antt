@@ -42,10 +42,10 @@ counted : (c : After-simulate-answer) → simulated_is c.simulate-answer.result 
 counted c = c.simulate-answer.ensures.simulated.answered ∙ counts_given largest (given c) (lent_decisions c) (lent_rounds c) c.requires.accepted fcwfa
 
 -- and its tables
-decided : (c : After-simulate-answer) → c.simulate-answer.new.1.1.1.1.1.0 ≡ (report fcwfa (given c)).decisions
+decided : (c : After-simulate-answer) → c.simulate-answer.new.decisions ≡ (report fcwfa (given c)).decisions
 decided c = c.simulate-answer.ensures.simulated.decisions_given ∙ table_given largest (given c) (lent_decisions c) (lent_rounds c) c.requires.accepted _ (lent_decisions c)
 
-timed : (c : After-simulate-answer) → c.simulate-answer.new.1.1.1.1.1.1.0 ≡ (report fcwfa (given c)).rounds
+timed : (c : After-simulate-answer) → c.simulate-answer.new.rounds ≡ (report fcwfa (given c)).rounds
 timed c = c.simulate-answer.ensures.simulated.rounds_given ∙ table_given largest (given c) (lent_decisions c) (lent_rounds c) c.requires.accepted _ (lent_rounds c)
 
 pub returns-in_default : goal.returns-in_default
