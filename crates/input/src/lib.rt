@@ -15,11 +15,10 @@ pub fn read_full<R: Read>(input: &mut R, buffer: &mut [u8]) -> usize
 {
     let mut done = 0;
     while done < buffer.len() {
-        let count = input.read(&mut buffer[done..]).unwrap_or(0);
-        if count == 0 {
-            break;
+        match input.read(&mut buffer[done..]) {
+            Ok(0) | Err(_) => break,
+            Ok(count) => done += count,
         }
-        done += count;
     }
     done
 }
