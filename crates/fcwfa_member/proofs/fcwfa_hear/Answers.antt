@@ -20,5 +20,7 @@ pub returns-in-Refused : goal.returns-in-Refused
 unfolding hear_answer
 returns-in-Refused c =
     let a = c.args in
+    let kept =
     answer_kept _ _ _ state_bytes _
-    (ap heard_is (sym c.in-Refused.is) ∙ c.hear-answer.ensures.answered ∙ ap (λ m. hear_answer largest m a.row.now) c.state_in.ensures.is)
+    (ap heard_is (sym c.in-Refused.is) ∙ c.hear-answer.ensures.answered ∙ ap (λ m. hear_answer largest m a.row.now) c.state_in.ensures.is) in
+    record { number = kept.0; state_after = kept.1 }

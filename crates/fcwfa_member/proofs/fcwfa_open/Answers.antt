@@ -9,10 +9,10 @@ use Rattle.fcwfa_member.proofs.fcwfa_open.Goals as goal
 pub returns-in-Started : goal.returns-in-Started
 unfolding open_answer
 returns-in-Started c =
-    let given = answer_given _ _ tt state_bytes _ (ap opened_is (sym c.in-Started.is) ∙ c.before.before.before.before.«open».ensures) in
+    let given = answer_given _ _ tt state_bytes _ (ap opened_is (sym c.in-Started.is) ∙ c.open-answer.ensures.answered) in
     record { number = given.0; state_after = c.state_bytes.ensures.are ∙ given.1 }
 
 pub returns-in-Refused : goal.returns-in-Refused
 unfolding open_answer
 returns-in-Refused c =
-    let all = answer_kept _ _ tt state_bytes _ (ap opened_is (sym c.in-Refused.is) ∙ c.before.before.before.«open».ensures) in record { number = all.0; state_after = all.1 }
+    let all = answer_kept _ _ tt state_bytes _ (ap opened_is (sym c.in-Refused.is) ∙ c.open-answer.ensures.answered) in record { number = all.0; state_after = all.1 }

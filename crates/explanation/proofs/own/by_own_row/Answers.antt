@@ -40,7 +40,7 @@ bounds-grid-place c =
 pub slice_bounds-explain-end : goal.slice_bounds-explain-end
 slice_bounds-explain-end c =
     let high = (question_accepted _ largest true c.requires.accepted).n_high in
-    let long = c.row-2-1.given.0 in
+    let long = c.row-2-1.given in
     sym (length-take-le _ _ (omega arith))
 
 pub returns : goal.returns

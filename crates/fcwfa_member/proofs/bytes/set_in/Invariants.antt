@@ -13,8 +13,11 @@ use Rattle.laws.proofs.Below.{sum_start, sum_step, sum_end}
 use Rattle.laws.proofs.Numerals.{numeral_below}
 use Rattle.fcwfa_member.proofs.bytes.set_in.Given as goal
 
+abbrev pub byte_at : List ℕ → ℕ → ℕ
+byte_at bytes k = get_or bytes (6 + k) 0
+
 abbrev pub invariant-loop-k : goal.invariant-loop-k
-invariant-loop-k l = (l.k ≤ 8) × (l.set ≡ sum l.k (λ l.k. byte_at l.bytes l.k * 2 ^ (8 * l.k)))
+invariant-loop-k l = (l.k ≤ 8) × (l.set ≡ sum l.k (λ k. byte_at l.bytes k * 2 ^ (8 * k)))
 
 abbrev pub decreases-loop-k : goal.decreases-loop-k
 decreases-loop-k l = 8 - l.k
