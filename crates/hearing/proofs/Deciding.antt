@@ -1,11 +1,7 @@
 -- The rules by which a member decides that was told nothing. Assumes nothing.
 use mathlib.Core.Path.{◌≡◌, refl}
-use mathlib.Core.List.{[], ◌∷◌}
-use types.Run.{OneOf, miss}
-use denote.Enum.Declared.{tag_of}
 use Rattle.member.specs.declared.Member.{Member}
 use Rattle.member.specs.declared.Tally.{Tally}
-use Rattle.member.specs.contracts.Rule.{the_type}
 use Rattle.member.specs.declared.Rule.{Rule}
 use Rattle.member.specs.declared.Rule.TheVariants.{Told, ZerosOnly, Quiet, RoundT, LastRound, NoRule}
 use Rattle.member.specs.Hearing.{moved, lowered, by_rule}

@@ -1,17 +1,14 @@
 -- The number that goes with each rule, from a row and its counts; and what is known of an accepted row before it is counted again. Assumes nothing.
 use mathlib.Core.Path.{◌≡◌, refl, sym, ap, ◌∙◌}
-use mathlib.Core.List.{List, [], ◌∷◌}
+use mathlib.Core.List.{List}
 use mathlib.Core.Bool.{true}
 use Prim.Native.Nat.{ℕ, ◌+◌, ◌-◌}
-use types.Run.{OneOf, miss}
-use denote.Enum.Declared.{tag_of}
 use Rattle.laws.specs.Answer.{accepted, refused}
 use Rattle.laws.proofs.Answer.{passed, accepted_is, refused_is, answer_accepted, answer_refused}
 use native.Mathlib.Omega.{arith}
 use Rattle.member.specs.declared.Member.{Member}
 use Rattle.member.specs.declared.Tally.{Tally}
 use Rattle.member.specs.declared.Reason.{Reason}
-use Rattle.member.specs.contracts.Rule.{the_type}
 use Rattle.member.specs.declared.Rule.{Rule}
 use Rattle.member.specs.declared.Rule.TheVariants.{Told, ZerosOnly, Quiet, RoundT, LastRound, NoRule}
 use Rattle.member.specs.State.{in_range}

@@ -14,7 +14,7 @@ use Rattle.member.specs.declared.Tally.{Tally}
 use Rattle.member.specs.declared.Rule.{Rule}
 use Rattle.member.specs.State.{stopped}
 use Rattle.member.specs.Saying.{says}
-use Rattle.member.specs.Hearing.{tally_of, estimates, told, rule_met, first_estimate, lowered, by_rule, becomes, hears, is_estimate}
+use Rattle.member.specs.Hearing.{tally_of, estimates, rule_met, first_estimate, lowered, by_rule, becomes, hears, is_estimate}
 use Rattle.member.specs.Reasons.{rule_heard}
 use Rattle.member.specs.Promises.{HearingPromises}
 use Rattle.member.proofs.Promises.{becomes_first, becomes_later, heard_later, undecided_step, decides_last, hearing_promises}

@@ -19,7 +19,7 @@ use Rattle.member.specs.declared.Member.{Member}
 use Rattle.member.specs.Opening.{open_question}
 use Rattle.member.specs.State.{in_range, stopped}
 use Rattle.member.specs.Saying.{says}
-use Rattle.member.specs.Hearing.{tally_of, told_early, told_both, hears}
+use Rattle.member.specs.Hearing.{tally_of, told_early, told_both}
 use Rattle.member.specs.Questions.{say_question, row_question, hear_question}
 use Rattle.member.proofs.Range.{limits_open}
 use Rattle.member.proofs.Promises.{hearing_promises, opening_promises}

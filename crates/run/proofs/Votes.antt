@@ -11,7 +11,7 @@ use Rattle.member.specs.Hearing.{is_estimate}
 use Rattle.member.proofs.Codes.{is_estimate_lem}
 use Rattle.run.proofs.OneRound.{decides, waits}
 use Rattle.run.proofs.World.{World, Plays, RoundLaws, DecisionRules, crashes, Uniform, AllDecide}
-use Rattle.run.proofs.States.{undecided, heard_by_all, heard_from_lem, nobody_told, plays_on, uniform_step, settled}
+use Rattle.run.proofs.States.{heard_by_all, heard_from_lem, nobody_told, plays_on, uniform_step, settled}
 
 module _ (w : World) where
   open w use {n, t, start, crash, estimate, decided, code}

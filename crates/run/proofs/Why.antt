@@ -22,7 +22,7 @@ use Rattle.member.specs.declared.Rule.{Rule}
 use Rattle.member.specs.declared.Rule.TheVariants.{NoRule}
 use Rattle.member.specs.declared.Reason.{Reason}
 use Rattle.member.specs.State.{stopped}
-use Rattle.member.specs.Hearing.{tally_of, is_estimate, estimates, told, told_value}
+use Rattle.member.specs.Hearing.{tally_of, is_estimate, told, told_value}
 use Rattle.member.specs.Reasons.{is_decision, lowest_sender, rule_heard, rule_number, reason_heard}
 use Rattle.member.proofs.Promises.{told_bit, reason_promises}
 use Rattle.member.proofs.Reasons.{none_before, sender_here, sender_low}

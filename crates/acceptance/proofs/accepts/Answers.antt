@@ -2,7 +2,6 @@
 -- Assumes nothing.
 use mathlib.Core.Path.{◌≡◌, refl, ap, ◌∙◌}
 use mathlib.Core.Bool.{true}
-use borrow.Author.Rules.{rules}
 use Rattle.sets.specs.Largest.{largest}
 use Rattle.schedule.specs.Schedule.{schedule_of}
 use Rattle.schedule.specs.Questions.{question}

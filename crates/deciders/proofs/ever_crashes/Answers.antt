@@ -2,7 +2,6 @@
 use mathlib.Core.Path.{sym, ◌∙◌}
 use native.Mathlib.Omega.{arith}
 use lib.ListN.{get_or}
-use borrow.Author.Rules.{rules}
 use Rattle.run.proofs.Before.{never_crashes, crashes_once}
 use Rattle.deciders.proofs.ever_crashes.Goals as goal
 

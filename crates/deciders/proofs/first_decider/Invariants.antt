@@ -1,11 +1,9 @@
 -- `first_decider` meets its contract: after i places its variable is the first decider of the first i processes. Assumes nothing.
 use mathlib.Core.Path.{◌≡◌}
 use Prim.Native.Nat.{◌-◌, ◌≤◌}
-use native.Mathlib.Omega.{arith}
 use lib.ListN.{length, get_or}
 use Rattle.laws.specs.Below.{fold}
-use Rattle.laws.proofs.Folds.{fold_none, fold_step, fold_end}
-use Rattle.run.specs.Report.{first_with, first_of}
+use Rattle.run.specs.Report.{first_with}
 use Rattle.deciders.proofs.first_decider.Given as goal
 
 abbrev pub invariant-loop-i : goal.invariant-loop-i

@@ -1,7 +1,6 @@
 -- `goes_before` meets its contract: it is ahead by round, and where those are equal by whether it crashes, and only then by number. Assumes nothing.
 use mathlib.Core.Path.{◌∙◌}
 use lib.Dec.{ltb}
-use borrow.Author.Rules.{rules}
 use Rattle.run.specs.Report.{ahead, before}
 use Rattle.deciders.proofs.goes_before.Goals as goal
 

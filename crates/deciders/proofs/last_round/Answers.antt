@@ -1,10 +1,5 @@
 -- `last_round` meets its contract: after i places its variable is the largest round of the first i processes. Assumes nothing.
-use mathlib.Core.Path.{◌≡◌}
-use Prim.Native.Nat.{◌-◌, ◌≤◌, max}
 use native.Mathlib.Omega.{arith}
-use lib.ListN.{length, get_or}
-use borrow.Author.Rules.{rules}
-use Rattle.laws.specs.Below.{fold}
 use Rattle.laws.proofs.Folds.{fold_none, fold_step, fold_end}
 use Rattle.run.specs.Report.{last_of}
 use Rattle.deciders.proofs.last_round.Goals as goal

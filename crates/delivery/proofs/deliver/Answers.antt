@@ -1,12 +1,10 @@
 -- `deliver` meets its contract: every row starts as the codes of those that complete the round, and each turn looks at one sender (Heard.antt). Assumes
 -- nothing.
-use Prim.Native.Nat.{◌-◌, ◌≤◌}
 use mathlib.Core.Path.{refl}
 use native.Mathlib.Omega.{arith}
-use borrow.Author.Rules.{rules}
 use Rattle.laws.proofs.Overwritten.{over_long, over_again}
 use Rattle.sets.specs.Largest.{fitting}
-use Rattle.delivery.proofs.Heard.{RowsSoFar, rows_start, entered_at, rows_more, rows_end}
+use Rattle.delivery.proofs.Heard.{rows_start, entered_at, rows_more, rows_end}
 use Rattle.delivery.proofs.deliver.Goals as goal
 
 pub returns-then-grid-size : goal.returns-then-grid-size

@@ -1,15 +1,12 @@
 -- `message_count` meets its contract: n - 1 for each sender that completes the round and speaks, and each turn adds what a crashing sender sends
 -- (Sent.antt). Assumes nothing.
-use Prim.Native.Nat.{◌+◌, ◌-◌, ◌*◌, ◌≤◌}
-use mathlib.Core.Path.{◌≡◌, ap, ◌∙◌}
+use mathlib.Core.Path.{ap, ◌∙◌}
 use native.Mathlib.Nat.{le_trans, le_of_eq}
 use native.Mathlib.Omega.{arith}
-use borrow.Author.Rules.{rules}
 use lib.ListN.{get_or}
-use Rattle.laws.specs.Below.{sum}
-use Rattle.sets.specs.Largest.{largest, fitting}
+use Rattle.sets.specs.Largest.{fitting}
 use Rattle.run.specs.Report.{sent_by}
-use Rattle.delivery.proofs.Sent.{completing_few, crashing_low, crashing_adds, so_far_start, so_far_more, all_sent, sent_low}
+use Rattle.delivery.proofs.Sent.{completing_few, crashing_low, so_far_start, so_far_more, all_sent, sent_low}
 use Rattle.delivery.proofs.message_count.Goals as goal
 
 pub overflow_mul-messages : goal.overflow_mul-messages

@@ -1,7 +1,6 @@
 -- `explain` meets its contract: hearing asks the questions, and a row that it answers is counted once more. Assumes nothing.
 use mathlib.Core.Path.{◌≡◌, sym, ap, ◌∙◌}
 use native.Mathlib.Omega.{arith}
-use borrow.Author.Rules.{rules}
 use Rattle.sets.specs.Largest.{largest}
 use Rattle.member.specs.Questions.{hear_question}
 use Rattle.member.specs.Answers.{heard_is}

@@ -11,7 +11,6 @@ use Rattle.member.specs.Answers.{said_is, say_answer, hear_answer}
 use Rattle.member.proofs.Range.{in_range_ranged}
 use Rattle.hearing.proofs.Asked.{say_refused, say_in_range, say_code, all_codes, row_refused, row_accepted}
 use Rattle.hearing.proofs.Counted.{estimates_high}
-use borrow.Author.Rules.{rules}
 use Rattle.hearing.proofs.hear.Goals as goal
 use Rattle.hearing.proofs.hear.Goals.{In-Code}
 

@@ -1,7 +1,6 @@
 -- `from` meets its contract: the part that it lends from `at` on has every byte that is left, and past the end nothing is left. Assumes nothing.
 use mathlib.Core.Path.{sym}
 use native.Mathlib.Omega.{arith}
-use borrow.Author.Rules.{rules}
 use lib.ListN.{drop_of_length-le}
 use Rattle.lines.proofs.Parts.{rest_part}
 use Rattle.lines.proofs.from.Goals as goal

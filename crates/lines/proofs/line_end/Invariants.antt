@@ -1,10 +1,8 @@
 -- `line_end` meets its contract: the bytes from `at` to i are of the line, and what is left of it starts at i. Assumes nothing.
 use mathlib.Core.Path.{◌≡◌}
 use Prim.Native.Nat.{◌+◌, ◌-◌, ◌≤◌}
-use native.Mathlib.Omega.{arith}
 use lib.ListN.{length, drop}
 use Rattle.lines.specs.Lines.{line_length}
-use Rattle.lines.proofs.Parts.{length_at, length_past, length_end}
 use Rattle.lines.proofs.line_end.Given as goal
 
 abbrev pub invariant-loop-i : goal.invariant-loop-i

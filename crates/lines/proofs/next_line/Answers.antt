@@ -1,7 +1,6 @@
 -- `next_line` meets its contract: the next line starts one place past the LF, and where there is no LF or no line, at the text's end.
 -- Assumes nothing.
 use native.Mathlib.Omega.{arith}
-use borrow.Author.Rules.{rules}
 use Rattle.lines.proofs.Parts.{next_start}
 use Rattle.lines.proofs.next_line.Goals as goal
 

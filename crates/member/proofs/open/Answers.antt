@@ -5,7 +5,6 @@ use mathlib.Core.Path.{sym, ◌∙◌}
 use Rattle.laws.specs.Answer.{answer}
 use Rattle.member.specs.Answers.{open_answer}
 use Rattle.member.proofs.Range.{open_limits}
-use borrow.Author.Rules.{rules}
 use Rattle.member.proofs.open.Goals as goal
 
 pub returns-then-question-ne0 : goal.returns-then-question-ne0

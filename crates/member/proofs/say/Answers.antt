@@ -5,7 +5,6 @@ use Rattle.laws.specs.Answer.{ask, answer, accepted}
 use Rattle.laws.proofs.Test.{was_false, was_true}
 use Rattle.member.specs.Questions.{say_question}
 use Rattle.member.specs.Answers.{say_answer}
-use borrow.Author.Rules.{rules}
 use Rattle.member.proofs.Range.{code_low}
 use Rattle.member.proofs.say.Goals as goal
 

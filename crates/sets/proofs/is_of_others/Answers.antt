@@ -1,5 +1,4 @@
 -- `is_of_others` meets its contract: its two tests are those of `names_others`. Assumes nothing.
-use borrow.Author.Rules.{rules}
 use Rattle.sets.proofs.is_of_others.Goals as goal
 
 pub returns-then-is_up_to : goal.returns-then-is_up_to

@@ -1,6 +1,5 @@
 -- `ones` meets its contract: a set has at most as many ones as bits, so that their number fits. Assumes nothing.
 use native.Mathlib.Omega.{arith}
-use borrow.Author.Rules.{rules}
 use Rattle.sets.specs.Largest.{largest}
 use Rattle.sets.proofs.Theorem.{width_facts}
 use Rattle.sets.proofs.ones.Goals as goal

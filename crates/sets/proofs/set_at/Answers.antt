@@ -1,7 +1,6 @@
 -- `set_at` meets its contract: past its end a table reads as 0. Assumes nothing.
 use mathlib.Core.Path.{sym}
 use native.Mathlib.Omega.{arith}
-use borrow.Author.Rules.{rules}
 use lib.ListN.{get_or-eq_default}
 use Rattle.sets.proofs.set_at.Goals as goal
 

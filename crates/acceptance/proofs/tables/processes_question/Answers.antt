@@ -1,8 +1,7 @@
 -- `processes_question` meets its contract: after i places the number is what the questions of the first i processes come to. Assumes nothing.
-use mathlib.Core.Path.{◌≡◌, refl, sym, ap, ap₂, ◌∙◌}
-use Prim.Native.Nat.{ℕ, ◌≤◌, ◌-◌}
+use mathlib.Core.Path.{refl, sym, ap, ap₂, ◌∙◌}
+use Prim.Native.Nat.{ℕ}
 use native.Mathlib.Omega.{arith}
-use borrow.Author.Rules.{rules}
 use Rattle.laws.specs.Below.{fold}
 use Rattle.laws.specs.Answer.{and_then, ask_each}
 use Rattle.laws.proofs.Answer.{ask_each_step}

@@ -1,11 +1,7 @@
 -- `processes_question` meets its contract: after i places the number is what the questions of the first i processes come to. Assumes nothing.
-use mathlib.Core.Path.{◌≡◌, refl, sym, ap, ap₂, ◌∙◌}
-use Prim.Native.Nat.{ℕ, ◌≤◌, ◌-◌}
-use native.Mathlib.Omega.{arith}
-use borrow.Author.Rules.{rules}
-use Rattle.laws.specs.Below.{fold}
-use Rattle.laws.specs.Answer.{and_then, ask_each}
-use Rattle.laws.proofs.Answer.{ask_each_step}
+use mathlib.Core.Path.{◌≡◌}
+use Prim.Native.Nat.{◌≤◌, ◌-◌}
+use Rattle.laws.specs.Answer.{ask_each}
 use Rattle.schedule.specs.Schedule.{schedule_of}
 use Rattle.schedule.specs.Questions.{process_question}
 use Rattle.acceptance.proofs.tables.processes_question.Given as goal

@@ -3,7 +3,6 @@
 use mathlib.Core.Logic.{inl, inr}
 use mathlib.Core.Path.{◌∙◌, ap}
 use native.Mathlib.Omega.{arith}
-use borrow.Author.Rules.{rules}
 use lib.Count.{ones}
 use Rattle.delivery.proofs.Sent.{nothing_added, silence_added, reach_added}
 use Rattle.delivery.proofs.copies.crashing_copies.Goals as goal

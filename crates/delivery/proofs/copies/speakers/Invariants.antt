@@ -2,12 +2,9 @@
 use Prim.Native.Nat.{◌-◌, ◌≤◌}
 use mathlib.Core.Bool.{not}
 use mathlib.Core.Path.{◌≡◌}
-use native.Mathlib.Omega.{arith}
-use borrow.Author.Rules.{rules}
 use lib.Dec.{eqb}
 use lib.ListN.{get_or}
 use Rattle.laws.specs.Below.{count}
-use Rattle.laws.proofs.Below.{count_none, count_step, count_end, count_room}
 use Rattle.sets.specs.Largest.{largest}
 use Rattle.member.specs.Saying.{nothing}
 use Rattle.delivery.proofs.copies.speakers.Given as goal

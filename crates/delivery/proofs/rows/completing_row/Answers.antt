@@ -1,15 +1,7 @@
 -- `completing_row` meets its contract: each turn enters one sender, and those past the end of the crash rounds come after. Assumes nothing.
-use Prim.Native.Nat.{◌-◌, ◌≤◌}
-use mathlib.Core.Bool.{cond}
 use mathlib.Core.Path.{◌≡◌, refl, sym, ◌∙◌}
 use native.Mathlib.Omega.{arith}
-use borrow.Author.Rules.{rules}
-use lib.ListN.{get_or, replicate}
-use Rattle.laws.specs.Filled.{Overwritten}
 use Rattle.laws.proofs.Overwritten.{over_start, over_more, over_at, over_so, over_all}
-use Rattle.sets.specs.Largest.{largest}
-use Rattle.member.specs.Saying.{nothing}
-use Rattle.run.specs.Run.{completes_round}
 use Rattle.delivery.proofs.Heard.{completing_code, completing_rest}
 use Rattle.delivery.proofs.rows.completing_row.Goals as goal
 

@@ -1,17 +1,10 @@
 -- `enter_crashing` meets its contract: a sender that crashes in another round, or never, changes nothing, and else each turn changes one row. Assumes
 -- nothing.
 use Prim.Native.Nat.{ℕ, ◌-◌, ◌≤◌}
-use mathlib.Core.Bool.{Bool, true, false, cond}
-use mathlib.Core.List.{List, [], ◌∷◌}
-use mathlib.Core.Logic.{◌≢◌, ⊎_elim}
-use mathlib.Core.Path.{◌≡◌, refl, ◌∙◌, ap, ap₂}
-use native.Mathlib.Omega.{arith}
-use borrow.Author.Rules.{rules}
+use mathlib.Core.Bool.{cond}
+use mathlib.Core.List.{[]}
 use lib.ListN.{get_or, set}
-use Rattle.laws.specs.Below.{bit}
 use Rattle.laws.specs.Filled.{Overwritten}
-use Rattle.laws.proofs.Below.{bit_high}
-use Rattle.laws.proofs.Overwritten.{over_start, over_more, over_past, over_long, over_all}
 use Rattle.sets.specs.Sets.{names}
 use Rattle.member.specs.Saying.{nothing}
 use Rattle.delivery.proofs.rows.enter_crashing.Given as goal

@@ -1,8 +1,6 @@
 -- `store_row` meets its contract: each turn stores the row once more. Assumes nothing.
-use Prim.Native.Nat.{ℕ, ◌-◌, ◌≤◌}
 use mathlib.Core.Path.{refl}
 use native.Mathlib.Omega.{arith}
-use Rattle.laws.specs.Filled.{Overwritten}
 use Rattle.laws.proofs.Overwritten.{over_start, over_more, over_long, over_all}
 use Rattle.delivery.proofs.rows.store_row.Goals as goal
 

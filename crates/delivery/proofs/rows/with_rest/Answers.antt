@@ -1,5 +1,5 @@
 -- `with_rest` meets its contract: the row holds its first places already, and each turn enters one code more. Assumes nothing.
-use Prim.Native.Nat.{ℕ, ◌-◌, ◌≤◌}
+use Prim.Native.Nat.{ℕ}
 use mathlib.Core.Bool.{cond}
 use mathlib.Core.Path.{◌≡◌, sym}
 use mathlib.Core.List.{List}

@@ -1,17 +1,10 @@
 -- `with_rest` meets its contract: the row holds its first places already, and each turn enters one code more. Assumes nothing.
-use Prim.Native.Nat.{ℕ, ◌-◌, ◌≤◌}
+use Prim.Native.Nat.{◌-◌, ◌≤◌}
 use mathlib.Core.Bool.{cond}
-use mathlib.Core.Path.{◌≡◌, sym}
-use mathlib.Core.List.{List}
-use native.Mathlib.Omega.{arith}
 use lib.Dec.{ltb}
 use lib.ListN.{get_or, replicate}
-use borrow.Author.Tests.{lt-ltb, le-ltb}
 use Rattle.laws.specs.Filled.{Overwritten}
-use Rattle.laws.proofs.Test.{cond_true, cond_false}
-use Rattle.laws.proofs.Overwritten.{over_so, over_more, over_all}
 use Rattle.sets.specs.Largest.{largest}
-use Rattle.sets.specs.Tables.{padded}
 use Rattle.delivery.proofs.rows.with_rest.Given as goal
 
 abbrev pub invariant-loop-j : goal.invariant-loop-j

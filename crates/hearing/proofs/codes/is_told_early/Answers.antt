@@ -5,7 +5,6 @@ use Rattle.laws.proofs.Test.{and_goes_on, and_ends}
 use native.Mathlib.Omega.{arith}
 use borrow.Author.Tests.{le-leb, lt-leb}
 use Rattle.member.specs.Hearing.{told, told_early}
-use borrow.Author.Rules.{rules}
 use Rattle.hearing.proofs.codes.is_told_early.Goals as goal
 
 pub returns-then-r-le2 : goal.returns-then-r-le2

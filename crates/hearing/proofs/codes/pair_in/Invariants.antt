@@ -1,12 +1,9 @@
 -- `pair_in` meets its contract: after i places each count is that of the first i codes. Assumes nothing.
 use Prim.Native.Nat.{◌+◌, ◌-◌, ◌≤◌}
-use mathlib.Core.Path.{◌≡◌, refl}
+use mathlib.Core.Path.{◌≡◌}
 use lib.Dec.{eqb, ltb}
 use lib.ListN.{length}
-use native.Mathlib.Omega.{arith}
-use borrow.Author.Rules.{rules}
-use Rattle.laws.proofs.Below.{count_none, count_step, count_room}
-use Rattle.hearing.proofs.Counted.{Counted, counted_all}
+use Rattle.hearing.proofs.Counted.{Counted}
 use Rattle.hearing.proofs.codes.pair_in.Given as goal
 
 abbrev pub invariant-loop-i : goal.invariant-loop-i

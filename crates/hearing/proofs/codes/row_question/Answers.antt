@@ -1,7 +1,6 @@
 -- `row_question` meets its contract: each question that is passed goes on to the next. Assumes nothing.
 use mathlib.Core.Path.{◌≡◌}
 use mathlib.Core.Bool.{not}
-use borrow.Author.Rules.{rules}
 use borrow.Author.Tests.{eq-eqb, ne_eqb}
 use Rattle.laws.specs.Answer.{ask}
 use Rattle.member.specs.declared.Member.{Member}

@@ -1,7 +1,6 @@
 -- `tally` meets its contract: where nothing stands above the estimates the other counts are 0. Assumes nothing.
 use mathlib.Core.Path.{sym, ◌∙◌}
 use native.Mathlib.Omega.{arith}
-use borrow.Author.Rules.{rules}
 use borrow.Author.Tests.{ne_eqb, le-ltb}
 use Rattle.hearing.proofs.Counted.{nothing_above}
 use Rattle.hearing.proofs.codes.tally.Goals as goal

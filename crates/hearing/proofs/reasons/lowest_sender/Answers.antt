@@ -1,10 +1,8 @@
 -- `lowest_sender` meets its contract: no decided message stands before the place looked at. Assumes nothing.
-use Prim.Native.Nat.{ℕ, ◌-◌, ◌≤◌, ◌<◌}
 use mathlib.Core.Path.{◌≡◌, sym, ◌∙◌}
 use mathlib.Core.Bool.{false}
 use native.Mathlib.Omega.{arith}
-use borrow.Author.Rules.{rules}
-use lib.ListN.{length, get_or}
+use lib.ListN.{get_or}
 use Rattle.laws.proofs.Counting.{below_or_top}
 use Rattle.member.specs.Reasons.{is_decision}
 use Rattle.member.proofs.Reasons.{sender_is}

@@ -1,5 +1,4 @@
 -- `reason` meets its contract. Assumes nothing.
-use borrow.Author.Rules.{rules}
 use Rattle.hearing.proofs.Numbered.{reason_is}
 use Rattle.hearing.proofs.reasons.reason.Goals as goal
 

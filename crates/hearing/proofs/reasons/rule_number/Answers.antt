@@ -1,6 +1,5 @@
 -- `rule_number` meets its contract: each rule's number is the one that Numbered.antt gives. Assumes nothing.
 use native.Mathlib.Omega.{arith}
-use borrow.Author.Rules.{rules}
 use Rattle.member.proofs.Reasons.{sender_high}
 use Rattle.hearing.proofs.Numbered.{told_number, quiet_number, count_number, no_number}
 use Rattle.hearing.proofs.reasons.rule_number.Goals as goal

@@ -1,5 +1,4 @@
 -- `by_rule` meets its contract: a rule that is neither the first nor none decides by the estimate. Assumes nothing.
-use borrow.Author.Rules.{rules}
 use Rattle.member.specs.Hearing.{by_rule}
 use Rattle.hearing.proofs.Deciding.{by_other}
 use Rattle.hearing.proofs.rules.by_rule.Goals as goal

@@ -2,7 +2,6 @@
 use native.Mathlib.Omega.{arith}
 use Rattle.member.specs.Hearing.{estimates, first_estimate}
 use borrow.Author.Tests.{lt-ltb, le-ltb}
-use borrow.Author.Rules.{rules}
 use Rattle.hearing.proofs.rules.first_estimate.Goals as goal
 
 pub returns-then-k-n : goal.returns-then-k-n

@@ -5,7 +5,6 @@ use Rattle.laws.proofs.Test.{and_goes_on, and_ends}
 use native.Mathlib.Omega.{arith}
 use Rattle.member.specs.Hearing.{estimates, enough}
 use borrow.Author.Tests.{eq-eqb, ne_eqb}
-use borrow.Author.Rules.{rules}
 use Rattle.hearing.proofs.rules.is_enough.Goals as goal
 
 pub returns-then-r-t : goal.returns-then-r-t

@@ -5,7 +5,6 @@ use Prim.Native.Nat.{◌-◌}
 use native.Mathlib.Omega.{arith}
 use Rattle.member.specs.Hearing.{estimates, quiet}
 use borrow.Author.Tests.{le-leb, lt-leb}
-use borrow.Author.Rules.{rules}
 use Rattle.hearing.proofs.rules.is_quiet.Goals as goal
 
 pub returns-then-r-t : goal.returns-then-r-t

@@ -3,7 +3,6 @@ use native.Mathlib.Omega.{arith}
 use borrow.Author.Tests.{eq-eqb, ne_eqb}
 use Rattle.member.specs.Hearing.{becomes}
 use Rattle.member.proofs.Range.{in_range_ranged}
-use borrow.Author.Rules.{rules}
 use Rattle.hearing.proofs.rules.next.Goals as goal
 
 pub moved-requires : goal.moved-requires

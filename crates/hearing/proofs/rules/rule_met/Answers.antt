@@ -7,7 +7,6 @@ use native.Mathlib.Omega.{arith}
 use borrow.Author.Tests.{eq-eqb, ne_eqb}
 use Rattle.member.specs.declared.Rule.TheVariants.{LastRound, NoRule}
 use Rattle.member.specs.Hearing.{rule_met}
-use borrow.Author.Rules.{rules}
 use Rattle.hearing.proofs.rules.rule_met.Goals as goal
 use Rattle.hearing.proofs.rules.rule_met.Goals.{Else-is_enough}
 

@@ -1,5 +1,4 @@
 -- `is_set` meets its contract: its tests are those of `sets_silent`, in order. Assumes nothing.
-use borrow.Author.Rules.{rules}
 use borrow.Author.Tests.{eq-eqb, ne_eqb, le-leb, lt-leb}
 use Rattle.member.specs.Hearing.{sets_silent}
 use Rattle.hearing.proofs.silent.is_set.Goals as goal

@@ -1,12 +1,9 @@
 -- `eights` meets its contract: the set is that of the first i places, and i is a multiple of 8. Assumes nothing.
-use mathlib.Core.Path.{◌≡◌, ap, ◌∙◌}
-use Prim.Native.Nat.{ℕ, ◌+◌, ◌-◌, ◌*◌, ◌%◌, ◌^◌, ◌≤◌}
-use native.Mathlib.Omega.{arith}
+use mathlib.Core.Path.{◌≡◌}
+use Prim.Native.Nat.{◌-◌, ◌%◌, ◌≤◌}
 use lib.ListN.{length}
-use Rattle.laws.proofs.Below.{sum_start}
-use Rattle.sets.specs.Largest.{largest}
 use Rattle.sets.specs.Sets.{set_of}
-use Rattle.hearing.proofs.Places.{silent, room, added}
+use Rattle.hearing.proofs.Places.{silent}
 use Rattle.hearing.proofs.zeros.eights.Given as goal
 
 abbrev pub invariant-loop-i : goal.invariant-loop-i

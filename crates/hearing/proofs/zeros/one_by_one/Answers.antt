@@ -1,9 +1,7 @@
 -- `one_by_one` meets its contract: the set is that of the first i places. Assumes nothing.
 use mathlib.Core.Path.{◌≡◌, ◌∙◌}
-use Prim.Native.Nat.{◌+◌, ◌-◌, ◌*◌, ◌%◌, ◌^◌, ◌≤◌}
+use Prim.Native.Nat.{◌+◌, ◌*◌, ◌%◌, ◌^◌}
 use native.Mathlib.Omega.{arith}
-use borrow.Author.Rules.{rules}
-use lib.ListN.{length}
 use Rattle.laws.proofs.Below.{sum_start, sum_end}
 use Rattle.sets.specs.Largest.{largest}
 use Rattle.sets.specs.Sets.{set_of}

@@ -1,13 +1,9 @@
 -- `one_by_one` meets its contract: the set is that of the first i places. Assumes nothing.
-use mathlib.Core.Path.{◌≡◌, ◌∙◌}
-use Prim.Native.Nat.{◌+◌, ◌-◌, ◌*◌, ◌%◌, ◌^◌, ◌≤◌}
-use native.Mathlib.Omega.{arith}
-use borrow.Author.Rules.{rules}
+use mathlib.Core.Path.{◌≡◌}
+use Prim.Native.Nat.{◌-◌, ◌≤◌}
 use lib.ListN.{length}
-use Rattle.laws.proofs.Below.{sum_start, sum_end}
-use Rattle.sets.specs.Largest.{largest}
 use Rattle.sets.specs.Sets.{set_of}
-use Rattle.hearing.proofs.Places.{silent, room, added, single}
+use Rattle.hearing.proofs.Places.{silent}
 use Rattle.hearing.proofs.zeros.one_by_one.Given as goal
 
 abbrev pub invariant-loop-i : goal.invariant-loop-i

@@ -1,8 +1,6 @@
 -- `code` meets its contract: an estimate and 3 more are far from the largest number. Assumes nothing.
-use native.Mathlib.Omega.{arith}
 use borrow.Author.Tests.{eq-eqb, ne_eqb}
 use Rattle.member.specs.Saying.{says}
-use borrow.Author.Rules.{rules}
 use Rattle.member.proofs.state.code.Goals as goal
 
 pub returns-then-is_stopped : goal.returns-then-is_stopped

@@ -3,7 +3,6 @@ use Prim.Native.Nat.{ℕ}
 use Rattle.member.specs.State.{in_limits}
 use lib.Dec.{eqb}
 use mathlib.Core.Path.{ap}
-use borrow.Author.Rules.{rules}
 use Rattle.member.proofs.state.is_in_limits.Goals as goal
 
 pub returns : goal.returns

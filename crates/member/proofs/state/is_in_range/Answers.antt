@@ -1,7 +1,6 @@
 -- `is_in_range` meets its contract: its tests are those of `inRange`, in order. Assumes nothing.
 use mathlib.Core.Path.{◌≡◌}
 use mathlib.Core.Bool.{true, false}
-use borrow.Author.Rules.{rules}
 use Rattle.laws.proofs.Test.{was_false, was_true}
 use Rattle.sets.specs.Largest.{largest}
 use Rattle.member.specs.State.{in_limits, placed, in_range}

@@ -8,7 +8,6 @@ use borrow.Author.Tests.{eq-eqb, ne_eqb}
 use Rattle.laws.proofs.Test.{was_false, was_true}
 use Rattle.member.specs.State.{placed}
 use Rattle.member.proofs.Range.{placed_last}
-use borrow.Author.Rules.{rules}
 use Rattle.member.proofs.state.is_placed.Goals as goal
 
 pub returns-then-decided-eq0 : goal.returns-then-decided-eq0

@@ -1,6 +1,5 @@
 -- `is_silent_of_others` meets its contract. Assumes nothing.
 use native.Mathlib.Omega.{arith}
-use borrow.Author.Rules.{rules}
 use Rattle.member.specs.State.{silent_others}
 use Rattle.member.proofs.state.is_silent_of_others.Goals as goal
 

@@ -4,7 +4,6 @@ use native.Mathlib.Omega.{arith}
 use borrow.Author.Tests.{eq-eqb, ne_eqb}
 use Rattle.member.specs.State.{stopped}
 use Rattle.member.proofs.Range.{stopped_last}
-use borrow.Author.Rules.{rules}
 use Rattle.member.proofs.state.is_stopped.Goals as goal
 
 pub returns-then-round-m : goal.returns-then-round-m
