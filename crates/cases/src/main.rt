@@ -72,7 +72,13 @@ fn show_run(rt: &impl Print, case: Case) {
 }
 
 // The report, and whether the table has the same.
-fn show_answer(rt: &impl Print, case: Case, answer: Simulated, decisions: [u8; 4], decided: [u8; 4]) {
+fn show_answer(
+    rt: &impl Print,
+    case: Case,
+    answer: Simulated,
+    decisions: [u8; 4],
+    decided: [u8; 4],
+) {
     let Simulated::Completed(counts) = answer else {
         show_difference(rt, false);
         return;
