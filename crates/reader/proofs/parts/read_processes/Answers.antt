@@ -72,7 +72,7 @@ unfolding entry
 asked c =
     let pre = c.requires in
     c.process_question-number.ensures.asked
-    ∙ ap₂ (λ (n t : ℕ). entry_question n t c.loop-i.i (entry (goal.at.After-process_question-number c).In-Process).vote (entry (goal.at.After-process_question-number c).In-Process).crash (entry (goal.at.After-process_question-number c).In-Process).reach) (sym pre.0.1) (sym pre.0.2)
+    ∙ ap₂ (λ (n t : ℕ). entry_question n t c.loop-i.i (entry (goal.at.After-process_question-number c).In-Process).vote (entry (goal.at.After-process_question-number c).In-Process).crash (entry (goal.at.After-process_question-number c).In-Process).reach) (sym pre.sizes.1) (sym pre.sizes.2)
 
 pub returns-then-number-ne0 : goal.returns-then-number-ne0
 returns-then-number-ne0 c =
