@@ -76,9 +76,9 @@ module _ {A : Type 0} where
 -- A process's line whose reach has at most `limit` letters. Where n is at most that it is no question, and a line that is not of its form stays so for
 -- any n.
 module _ (limit n i : ℕ) (text : List ℕ) where
-  pub entry_up_to : n ≤ limit → entry_up_to limit n i text ≡ entry_at n i text
+  pub entry_up_to_lem : n ≤ limit → entry_up_to limit n i text ≡ entry_at n i text
   unfolding entry_up_to
-  entry_up_to l = cond_true (leb n limit) (entry_at n i text) wrong (le-leb n limit l)
+  entry_up_to_lem l = cond_true (leb n limit) (entry_at n i text) wrong (le-leb n limit l)
 
   no_entry_lem : none ≡ value_of (entry_at n i text) → none ≡ value_of (entry_up_to limit n i text)
   unfolding entry_up_to

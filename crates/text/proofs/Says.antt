@@ -170,19 +170,17 @@ rule_read_lem NoRule rest = refl
 
 -- The number of a rule at the end of a line, with what follows it.
 module _ (x y : ℕ) (rest others : List ℕ) where
+  same_number_shown : {A B : Type 0} → field x lf ++ rest ≡ field y lf ++ others → (A → B → x ≡ y) × (rest ≡ others)
+  same_number_shown e = let both = same_field lf (omega arith) x y rest others e in (λ _ _. both.0, both.1)
+
   same_given : (p : Rule) → number_shown p x ++ rest ≡ number_shown p y ++ others → (p ≢ ZerosOnly → p ≢ LastRound → x ≡ y) × (rest ≡ others)
   unfolding number_shown
-  same_given p = elim p [
-    | Told ↦ given
-    | ZerosOnly ↦ λ e. (λ other _. absurd (other refl), same_rest (quoted "-\n") rest others e)
-    | Quiet ↦ given
-    | RoundT ↦ given
-    | LastRound ↦ λ e. (λ _ other. absurd (other refl), same_rest (quoted "-\n") rest others e)
-    | NoRule ↦ given
-  ]
-    where
-      given : {A B : Type 0} → field x lf ++ rest ≡ field y lf ++ others → (A → B → x ≡ y) × (rest ≡ others)
-      given e = let both = same_field lf (omega arith) x y rest others e in (λ _ _. both.0, both.1)
+  same_given Told e = same_number_shown e
+  same_given ZerosOnly e = (λ other _. absurd (other refl), same_rest (quoted "-\n") rest others e)
+  same_given Quiet e = same_number_shown e
+  same_given RoundT e = same_number_shown e
+  same_given LastRound e = (λ _ other. absurd (other refl), same_rest (quoted "-\n") rest others e)
+  same_given NoRule e = same_number_shown e
 
 -- The line of a reason, with what follows it.
 reason_parts : (id : ℕ) (why : Reason) (rest : List ℕ)

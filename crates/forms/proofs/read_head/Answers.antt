@@ -28,7 +28,7 @@ abbrev text1 : Else-text-gt-LONGEST → List ℕ
 text1 c = c.args.text.now
 
 abbrev text2 : In-Heading → List ℕ
-text2 c = text1 (goal.at.In-Heading c).After-read_heading-arg-1
+text2 c = text1 (goal.at.In-Heading c).Else-text-gt-LONGEST
 
 abbrev text3 : In-Sized → List ℕ
 text3 c = text2 (goal.at.In-Sized c).In-Heading
@@ -46,14 +46,14 @@ short c = le-leb (length (text1 c)) longest (omega arith)
 
 pub returns-in_default : goal.returns-in_default
 returns-in_default c =
-    record { asked = head_1 _ _ _ _ (short (goal.at.returns-in_default c).After-read_heading-arg-1) (sym c.read_heading.ensures.read ∙ ap heading_is c.in_default.is) }
+    record { asked = head_1 _ _ _ _ (short (goal.at.returns-in_default c).Else-text-gt-LONGEST) (sym c.read_heading.ensures.read ∙ ap heading_is c.in_default.is) }
 
 -- line 1 is the heading
 first : (c : In-Heading) → starts_with sizes_heading (text2 c) ≡ true
 first c = sym c.read_heading.ensures.read ∙ ap heading_is c.in-Heading.is
 
 short2 : (c : In-Heading) → leb (length (text2 c)) longest ≡ true
-short2 c = short (goal.at.In-Heading c).After-read_heading-arg-1
+short2 c = short (goal.at.In-Heading c).Else-text-gt-LONGEST
 
 -- line 2 is read
 second : (c : After-read_sizes) → sizes_is c.read_sizes.result ≡ value_of (sizes_at (after_lines 1 (text2 (goal.at.After-read_sizes c).In-Heading)))
@@ -82,18 +82,18 @@ returns-then-number-ne0 c =
     record { asked = head_sizes _ _ _ _ (short2 (goal.at.returns-then-number-ne0 c).In-Heading) (first (goal.at.returns-then-number-ne0 c).In-Heading) (of_its_form (goal.at.returns-then-number-ne0 c).In-Sized) _ (sizes (goal.at.returns-then-number-ne0 c).After-size_question-number) c.if-number-ne0.true }
 
 -- line 3 is compared
-third : (c : After-read_heading-2) → starts_with processes_heading (after_lines 2 (text4 (goal.at.After-read_heading-2 c).After-line_start-2)) ≡ heading_is c.read_heading-2.result
+third : (c : After-read_heading-2) → starts_with processes_heading (after_lines 2 (text4 (goal.at.After-read_heading-2 c).Else-number-ne0)) ≡ heading_is c.read_heading-2.result
 third c =
-    let part = part_after (text4 (goal.at.After-read_heading-2 c).After-line_start-2) 2 c.from-third.ensures.part c.line_start-2.ensures.start in
+    let part = part_after (text4 (goal.at.After-read_heading-2 c).Else-number-ne0) 2 c.from-third.ensures.part c.line_start-2.ensures.start in
     sym (c.read_heading-2.ensures.read ∙ ap (starts_with processes_heading) part)
 
 pub returns-in_default-read_heading : goal.returns-in_default-read_heading
 returns-in_default-read_heading c =
-    record { asked = head_3 _ _ _ _ (short2 (goal.at.returns-in_default-read_heading c).After-line_start) (first (goal.at.returns-in_default-read_heading c).After-line_start) (of_its_form (goal.at.returns-in_default-read_heading c).In-Sized) _ (sizes (goal.at.returns-in_default-read_heading c).Else-number-ne0) c.if-number-ne0.false (third (goal.at.returns-in_default-read_heading c).After-read_heading-2 ∙ ap heading_is c.in_default-read_heading.is) }
+    record { asked = head_3 _ _ _ _ (short2 (goal.at.returns-in_default-read_heading c).In-Heading) (first (goal.at.returns-in_default-read_heading c).In-Heading) (of_its_form (goal.at.returns-in_default-read_heading c).In-Sized) _ (sizes (goal.at.returns-in_default-read_heading c).After-size_question-number) c.if-number-ne0.false (third (goal.at.returns-in_default-read_heading c).After-read_heading-2 ∙ ap heading_is c.in_default-read_heading.is) }
 
 pub returns : goal.returns
 returns c =
     record {
       asked = ap accepted (found_value (record { n = 0; t = 0 }) (sizes_at (after_lines 1 (text3 (goal.at.returns c).In-Sized))) (values (goal.at.returns c).In-Sized))
-          ∙ head_passed _ _ _ _ (short2 (goal.at.returns c).After-line_start) (first (goal.at.returns c).After-line_start) (of_its_form (goal.at.returns c).In-Sized) _ (sizes (goal.at.returns c).Else-number-ne0) c.if-number-ne0.false (third (goal.at.returns c).After-read_heading-2 ∙ ap heading_is c.in-Heading-read_heading.is);
+          ∙ head_passed _ _ _ _ (short2 (goal.at.returns c).In-Heading) (first (goal.at.returns c).In-Heading) (of_its_form (goal.at.returns c).In-Sized) _ (sizes (goal.at.returns c).After-size_question-number) c.if-number-ne0.false (third (goal.at.returns c).After-read_heading-2 ∙ ap heading_is c.in-Heading-read_heading.is);
     }

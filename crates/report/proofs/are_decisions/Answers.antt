@@ -10,10 +10,8 @@ use lib.ListN.{length, get_or}
 use Rattle.laws.specs.Below.{count}
 use Rattle.laws.proofs.Below.{count_none, count_step, count_room, count_end}
 use Rattle.report.specs.Shown.{are_decisions}
+use Rattle.report.proofs.are_decisions.Invariants.{decision}
 use Rattle.report.proofs.are_decisions.Goals as goal
-
-abbrev decision : List ℕ → ℕ → Bool
-decision decisions i = leb (get_or decisions i 0) 2
 
 pub loop-i-init : goal.loop-i-init
 loop-i-init c =

@@ -12,6 +12,9 @@ use Rattle.laws.proofs.Below.{count_none, count_step, count_room, count_end}
 use Rattle.report.specs.Shown.{are_decisions}
 use Rattle.report.proofs.are_decisions.Given as goal
 
+abbrev pub decision : List ℕ → ℕ → Bool
+decision decisions i = leb (get_or decisions i 0) 2
+
 abbrev pub invariant-loop-i : goal.invariant-loop-i
 invariant-loop-i l = (l.i ≤ length l.decisions) × (l.right ≡ count l.i (decision l.decisions))
 

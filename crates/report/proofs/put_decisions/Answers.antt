@@ -32,7 +32,7 @@ pub put_decision-next-requires : goal.put_decision-next-requires
 put_decision-next-requires c =
     record {
       small = let pre = c.requires in
-          (omega arith, decisions_all _ pre.1 c.loop-i.i (omega arith));
+          (omega arith, decisions_all _ pre.values c.loop-i.i (omega arith));
     }
 
 pub loop-i-preserved : goal.loop-i-preserved

@@ -23,4 +23,4 @@ returns-in_default c =
 
 pub returns : goal.returns
 returns c =
-    record { reason = let g = c.answer-1.given in ap (value_or g.0.0) (sym (ap explained_is g.1) ∙ because (goal.at.returns c).After-explain-answer) }
+    record { reason = ap (value_or c.in-Because.why) (sym (ap explained_is c.in-Because.is) ∙ because (goal.at.returns c).After-explain-answer) }

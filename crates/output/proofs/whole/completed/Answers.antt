@@ -50,7 +50,7 @@ timed c = c.simulate-answer.ensures.simulated.rounds_given ∙ table_given large
 
 pub returns-in_default : goal.returns-in_default
 returns-in_default c =
-    let all = absurd (not_accepted (sym (ap simulated_is c.in_default.is) ∙ counted (goal.at.returns-in_default c).After-simulate-answer)) in record { output = all.0; fits = all.1 }
+    let no : ⊥ = not_accepted (sym (ap simulated_is c.in_default.is) ∙ counted (goal.at.returns-in_default c).After-simulate-answer) in record { output = absurd no; fits = absurd no }
 
 -- the counts are numbers of 64 bits
 of_64_bits : (c : In-Completed) → let k = c.in-Completed.counts in (k.f < 2 ^ 64) × (k.first < 2 ^ 64) × (k.last < 2 ^ 64) × (k.messages < 2 ^ 64)
@@ -58,35 +58,35 @@ of_64_bits c = (search rules, search rules, search rules, search rules)
 
 -- what is printed is the report
 -- what is given is shown, and is the report
-all_shown : (c : After-put_report-end) → let s = given (goal.at.After-put_report-end c).After-simulate-arg-1 in let k = c.in-Completed.counts in
-    shown s.t k c.simulate.new.1.1.1.1.1.0 c.simulate.new.1.1.1.1.1.1.0
-    ≡ report_text (length c.simulate.new.1.1.1.1.1.0) s.t (given_by k c.simulate.new.1.1.1.1.1.0 c.simulate.new.1.1.1.1.1.1.0)
+all_shown : (c : After-put_report-end) → let s = given (goal.at.After-put_report-end c).After-simulate-answer in let k = c.in-Completed.counts in
+    shown s.t k c.simulate-answer.new.decisions c.simulate-answer.new.rounds
+    ≡ report_text (length c.simulate-answer.new.decisions) s.t (given_by k c.simulate-answer.new.decisions c.simulate-answer.new.rounds)
 all_shown c =
-    let s = given (goal.at.After-put_report-end c).After-simulate-arg-1 in
+    let s = given (goal.at.After-put_report-end c).After-simulate-answer in
     let pre = c.requires.accepted in
-    let long : length c.simulate.new.1.1.1.1.1.0 ≡ s.n = ap length (decided (goal.at.After-put_report-end c).After-simulate-arg-1) ∙ decisions_long fcwfa s in
-    let rounds : length c.simulate.new.1.1.1.1.1.1.0 ≡ s.n = ap length (timed (goal.at.After-put_report-end c).After-simulate-arg-1) ∙ rounds_long fcwfa s in
-    shown_all s.t _ _ _ (rounds ∙ sym long) (ap are_decisions (decided (goal.at.After-put_report-end c).After-simulate-arg-1) ∙ all_decisions s largest _ pre)
+    let long : length c.simulate-answer.new.decisions ≡ s.n = ap length (decided (goal.at.After-put_report-end c).After-simulate-answer) ∙ decisions_long fcwfa s in
+    let rounds : length c.simulate-answer.new.rounds ≡ s.n = ap length (timed (goal.at.After-put_report-end c).After-simulate-answer) ∙ rounds_long fcwfa s in
+    shown_all s.t _ _ _ (rounds ∙ sym long) (ap are_decisions (decided (goal.at.After-put_report-end c).After-simulate-answer) ∙ all_decisions s largest _ pre)
 
-same_text : (c : After-put_report-end) → let s = given (goal.at.After-put_report-end c).After-simulate-arg-1 in let k = c.in-Completed.counts in
-    report_text (length c.simulate.new.1.1.1.1.1.0) s.t (given_by k c.simulate.new.1.1.1.1.1.0 c.simulate.new.1.1.1.1.1.1.0)
+same_text : (c : After-put_report-end) → let s = given (goal.at.After-put_report-end c).After-simulate-answer in let k = c.in-Completed.counts in
+    report_text (length c.simulate-answer.new.decisions) s.t (given_by k c.simulate-answer.new.decisions c.simulate-answer.new.rounds)
     ≡ report_text s.n s.t (report fcwfa s)
 same_text c =
-    let s = given (goal.at.After-put_report-end c).After-simulate-arg-1 in
+    let s = given (goal.at.After-put_report-end c).After-simulate-answer in
     let pre = c.requires.accepted in
-    print_given (report fcwfa s) s.n s.t _ _ _ (ap length (decided (goal.at.After-put_report-end c).After-simulate-arg-1) ∙ decisions_long fcwfa s) (sym (ap simulated_is c.in-Completed.is) ∙ counted (goal.at.After-put_report-end c).After-simulate-arg-1) (decided (goal.at.After-put_report-end c).After-simulate-arg-1) (timed (goal.at.After-put_report-end c).After-simulate-arg-1)
+    print_given (report fcwfa s) s.n s.t _ _ _ (ap length (decided (goal.at.After-put_report-end c).After-simulate-answer) ∙ decisions_long fcwfa s) (sym (ap simulated_is c.in-Completed.is) ∙ counted (goal.at.After-put_report-end c).After-simulate-answer) (decided (goal.at.After-put_report-end c).After-simulate-answer) (timed (goal.at.After-put_report-end c).After-simulate-answer)
 
 pub returns : goal.returns
 returns c =
-    let s = given (goal.at.returns c).After-simulate-arg-1 in
+    let s = given (goal.at.returns c).After-simulate-answer in
     let pre = c.requires.accepted in
     let k = c.in-Completed.counts in
     let n : s.n ≤ largest = n_small s largest _ pre in
-    let long : length c.simulate.new.1.1.1.1.1.0 ≡ s.n = ap length (decided (goal.at.returns c).After-simulate-arg-1) ∙ decisions_long fcwfa s in
+    let long : length c.simulate-answer.new.decisions ≡ s.n = ap length (decided (goal.at.returns c).After-simulate-answer) ∙ decisions_long fcwfa s in
     let t : s.t < 2 ^ 64 = search rules in
     let counts = of_64_bits (goal.at.returns c).In-Completed in
-    let rounds = c.simulate.new.1.1.1.1.1.1.0 in
-    let each-round : (i : ℕ) → get_or rounds i 0 < 2 ^ 64 = λ i. let b : get_or rounds i 0 < 256 = (c.slice_known-4-1.given i).fits in omega arith in
+    let rounds = c.simulate-answer.new.rounds in
+    let each-round : (i : ℕ) → get_or rounds i 0 < 2 ^ 64 = λ i. let b : get_or rounds i 0 < 256 = search rules in omega arith in
     let w = written_output _ _ _ _ c.blank_output-bytes.ensures.zeros (writes_same (all_shown (goal.at.returns c).After-put_report-end) c.put_report-end.ensures.written)
     (report_short _ s.t (given_by k _ rounds) (omega arith) t counts.0 counts.1 counts.2 counts.3 each-round) in
     record { output = w.0 ∙ ap output_is (same_text (goal.at.returns c).After-put_report-end); fits = w.1 }

@@ -30,7 +30,7 @@ decided c = c.conclude-answer.ensures.concluded.answered ∙ outcome_given fcwfa
 
 pub returns-in_default : goal.returns-in_default
 returns-in_default c =
-    let all = absurd (not_accepted (sym (ap concluded_is c.in_default.is) ∙ decided (goal.at.returns-in_default c).After-conclude-answer)) in record { output = all.0; fits = all.1 }
+    let no : ⊥ = not_accepted (sym (ap concluded_is c.in_default.is) ∙ decided (goal.at.returns-in_default c).After-conclude-answer) in record { output = absurd no; fits = absurd no }
 
 pub returns : goal.returns
 returns c =

@@ -16,6 +16,7 @@ returns c =
     let a = c.args in
     let s = schedule_of a.n a.t a.votes.now a.crashes.now a.reaches.now in
     let lines = c.put_reasons-end.ensures in
-    written_output _ _ _ _ c.blank_output-bytes.ensures.zeros
+    let w = written_output _ _ _ _ c.blank_output-bytes.ensures.zeros
     (writes_more _ _ c.put_reasons_heading-heading.ensures.written lines.written)
-    (reasons_short _ _ (n_small s largest true c.requires.accepted) lines.small)
+    (reasons_short _ _ (n_small s largest true c.requires.accepted) lines.small) in
+    record { output = w.0; fits = w.1 }

@@ -17,4 +17,5 @@ returns c =
     let short : length (line_of a.k a.text.now) ≤ longest = c.requires.short in
     let line = c.line.ensures.part in
     let w = writes_same (ap (refusal_text a.number a.k) line) c.put_refusal-end.ensures.written in
-    written_output _ _ _ _ c.blank_output-bytes.ensures.zeros w (refusal_short a.number a.k _ (search rules) (search rules) short)
+    let o = written_output _ _ _ _ c.blank_output-bytes.ensures.zeros w (refusal_short a.number a.k _ (search rules) (search rules) short) in
+    record { output = o.0; fits = o.1 }

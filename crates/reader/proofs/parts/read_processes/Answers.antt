@@ -16,7 +16,7 @@ use Rattle.schedule.specs.Questions.{entry_question}
 use Rattle.text.specs.Forms.{Entry, entry_at}
 use Rattle.text.specs.Reading.{sizes_in, entry_in, entry_questions}
 use Rattle.forms.specs.Answers.{value_of, process_is}
-use Rattle.forms.proofs.LineForms.{entry_up_to}
+use Rattle.forms.proofs.LineForms.{entry_up_to_lem}
 use Rattle.reader.specs.Parts.{Table}
 use Rattle.reader.proofs.Entries.{line_wrong, entry_is, entry_refused, entry_passed}
 use Rattle.reader.proofs.parts.read_processes.Goals as goal
@@ -35,7 +35,7 @@ entry_read d =
     let i = d.loop-i.i in
     let pre = d.requires in
     d.read_process.ensures.read
-    ∙ ap value_of (entry_up_to largest a.n i d.from.result.now pre.sizes.0)
+    ∙ ap value_of (entry_up_to_lem largest a.n i d.from.result.now pre.sizes.0)
     ∙ ap (λ (n : ℕ). value_of (entry_at n i d.from.result.now)) (sym pre.sizes.1)
     ∙ ap (λ (part : List ℕ). value_of (entry_at (sizes_in a.text.now).n i part)) (part_after a.text.now (i + 3) d.from.ensures.part d.loop-i.invariant.1)
 
@@ -72,7 +72,7 @@ unfolding entry
 asked c =
     let pre = c.requires in
     c.process_question-number.ensures.asked
-    ∙ ap₂ (λ (n t : ℕ). entry_question n t c.loop-i.i (entry (goal.at.After-process_question-number c).In-Process).vote (entry (goal.at.After-process_question-number c).In-Process).crash (entry (goal.at.After-process_question-number c).In-Process).reach) (sym pre.0.1) (sym pre.0.2)
+    ∙ ap₂ (λ (n t : ℕ). entry_question n t c.loop-i.i (entry (goal.at.After-process_question-number c).In-Process).vote (entry (goal.at.After-process_question-number c).In-Process).crash (entry (goal.at.After-process_question-number c).In-Process).reach) (sym pre.sizes.1) (sym pre.sizes.2)
 
 pub returns-then-number-ne0 : goal.returns-then-number-ne0
 returns-then-number-ne0 c =

@@ -16,7 +16,7 @@ use Rattle.schedule.specs.Questions.{entry_question}
 use Rattle.text.specs.Forms.{Entry, entry_at}
 use Rattle.text.specs.Reading.{sizes_in, entry_in, entry_questions}
 use Rattle.forms.specs.Answers.{value_of, process_is}
-use Rattle.forms.proofs.LineForms.{entry_up_to}
+use Rattle.forms.proofs.LineForms.{entry_up_to_lem}
 use Rattle.reader.specs.Parts.{Table}
 use Rattle.reader.proofs.Entries.{line_wrong, entry_is, entry_refused, entry_passed}
 use Rattle.reader.proofs.parts.read_processes.Given as goal

@@ -9,11 +9,8 @@ use Rattle.text.specs.Written.{each_line, process_line, process_lines}
 use Rattle.text.proofs.Lines.{no_lines, one_more_line}
 use Rattle.buffer.specs.Buffer.{Writes}
 use Rattle.buffer.proofs.Written.{writes_none, writes_same, writes_more}
+use Rattle.writer.proofs.processes.put_processes.Invariants.{lines}
 use Rattle.writer.proofs.processes.put_processes.Goals as goal
-
--- the lines of i processes
-abbrev lines : ℕ → List ℕ → List ℕ → List ℕ → ℕ → List ℕ
-lines n votes crashes reaches i = each_line i (λ k. process_line n k (get_or votes k 0) (get_or crashes k 0) (get_or reaches k 0))
 
 pub loop-i-init : goal.loop-i-init
 loop-i-init c =
