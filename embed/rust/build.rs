@@ -1,10 +1,10 @@
-//! Says where the static libraries are: in the folder that `FCWFA_LIB_DIR` names, or where `rt staticlib` writes them. If one of them is
+//! Says where the static libraries are: in the folder that `FCWFA_LIB_DIR` names, or where `bin/build` puts them. If one of them is
 //! not there, the build ends and names the command that makes it.
 use std::env::var_os;
 use std::path::{Path, PathBuf};
 use std::process::exit;
 
-/// The libraries, each by the name that `rt staticlib` takes.
+/// The libraries, each by the name that `bin/build` takes.
 const LIBRARIES: [&str; 5] = [
     "fcwfa_member",
     "fcwfa_simulator",
@@ -59,7 +59,7 @@ fn words(folder: &Path, missing: &[&str]) -> String {
     let mut words = format!("Not found in the folder {}:\n", folder.display());
     for library in missing {
         let file = file(library);
-        words += &format!("    {file}, which this command makes: rt staticlib {library}\n");
+        words += &format!("    {file}, which this command makes: bin/build {library}\n");
     }
     words
         + "Call it in the repository's root; it writes to target/staticlib there.\n\

@@ -8,27 +8,27 @@ ghost use Rattle.std.specs.Prelude.{◌≡◌, true, ◌<◌, length};
 ghost use Rattle.marked.specs.Marked.{cases};
 ghost use Rattle.refusals.specs.Refused.{refusals};
 
-use libc::STDOUT_FILENO;
 use marked::Case;
 use refusals::Refusal;
 use simulator::{Counts, Simulated};
+use std::io::Print;
 
 // Every case has n = 4 and t = 3.
 const N: usize = 4;
 
 const T: usize = 3;
 
-fn main() {
-    show_cases();
-    print(b"refused entry number\n");
-    show_refusals();
+fn main(rt: HostRuntime) {
+    show_cases(&rt);
+    print(&rt, b"refused entry number\n");
+    show_refusals(&rt);
 }
 
 // Every case of the table, in order.
-fn show_cases() {
+fn show_cases(rt: &impl Print) {
     let mut k: usize = 0;
     while is_case(k) {
-        show_case(k);
+        show_case(rt, k);
         k += 1;
     }
 }
@@ -42,18 +42,18 @@ fn is_case(k: usize) -> bool
 }
 
 // The letter of a case, and its run.
-fn show_case(k: usize)
+fn show_case(rt: &impl Print, k: usize)
     requires there { k < length cases }
 {
     let entry = marked::case_at(k);
     let letter = b'A' + k as u8;
-    print(b"case ");
-    print(&[letter, b'\n']);
-    show_run(entry.case);
+    print(rt, b"case ");
+    print(rt, &[letter, b'\n']);
+    show_run(rt, entry.case);
 }
 
 // The run of a case. The simulator fills the two answer tables.
-fn show_run(case: Case) {
+fn show_run(rt: &impl Print, case: Case) {
     let votes = case.votes;
     let crashes = case.crashes;
     let reaches = case.reaches;
@@ -68,24 +68,30 @@ fn show_run(case: Case) {
         &mut decisions,
         &mut decided,
     );
-    show_answer(case, answer, decisions, decided);
+    show_answer(rt, case, answer, decisions, decided);
 }
 
 // The report, and whether the table has the same.
-fn show_answer(case: Case, answer: Simulated, decisions: [u8; 4], decided: [u8; 4]) {
+fn show_answer(
+    rt: &impl Print,
+    case: Case,
+    answer: Simulated,
+    decisions: [u8; 4],
+    decided: [u8; 4],
+) {
     let Simulated::Completed(counts) = answer else {
-        show_difference(false);
+        show_difference(rt, false);
         return;
     };
-    show_report(counts, decisions, decided);
-    show_difference(is_as_marked(case, counts, decisions, decided));
+    show_report(rt, counts, decisions, decided);
+    show_difference(rt, is_as_marked(case, counts, decisions, decided));
 }
 
 // The report, in the lines that `bench` writes. It has less than 256 bytes.
-fn show_report(counts: Counts, decisions: [u8; 4], decided: [u8; 4]) {
+fn show_report(rt: &impl Print, counts: Counts, decisions: [u8; 4], decided: [u8; 4]) {
     let mut bytes = [0u8; 256];
     let end = report::put_report(&mut bytes, 0, T, counts, &decisions, &decided);
-    print(&bytes[..end]);
+    print(rt, &bytes[..end]);
 }
 
 // Whether these are the results that the table has for the case.
@@ -101,10 +107,10 @@ fn is_as_marked(case: Case, counts: Counts, decisions: [u8; 4], decided: [u8; 4]
 }
 
 // Every refused schedule of the table, in order.
-fn show_refusals() {
+fn show_refusals(rt: &impl Print) {
     let mut k: usize = 0;
     while is_refusal(k) {
-        show_refusal(k);
+        show_refusal(rt, k);
         k += 1;
     }
 }
@@ -118,14 +124,14 @@ fn is_refusal(k: usize) -> bool
 }
 
 // The place of a refused schedule, counted from 1, and the number that the simulator answers.
-fn show_refusal(k: usize)
+fn show_refusal(rt: &impl Print, k: usize)
     requires there { k < length refusals }
 {
     let entry = refusals::refusal_at(k);
     let number = number_of(entry.refusal);
-    print_number(k + 1, b" ");
-    print_number(number as usize, b"\n");
-    show_difference(number == entry.refusal.number);
+    print_number(rt, k + 1, b" ");
+    print_number(rt, number as usize, b"\n");
+    show_difference(rt, number == entry.refusal.number);
 }
 
 // The number that the schedule is refused with, 0 if it passes. Its tables have four places, and its
@@ -153,18 +159,18 @@ fn number_of(refusal: Refusal) -> u8 {
 }
 
 // A line more where the table has other results.
-fn show_difference(is_same: bool) {
+fn show_difference(rt: &impl Print, is_same: bool) {
     if !is_same {
-        print(b"differs from the table\n");
+        print(rt, b"differs from the table\n");
     }
 }
 
-fn print(text: &[u8]) {
-    io::write_all(STDOUT_FILENO, text);
+fn print(rt: &impl Print, text: &[u8]) {
+    let _ = rt.write_all(text);
 }
 
 // A number, and what stands after it.
-fn print_number(x: usize, after: &[u8]) {
-    io::print_decimal(STDOUT_FILENO, x as u64);
-    print(after);
+fn print_number(rt: &impl Print, x: usize, after: &[u8]) {
+    let _ = rt.print(x);
+    print(rt, after);
 }

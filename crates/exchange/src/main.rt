@@ -2,36 +2,36 @@
 // crashes in round 1 and reaches process 2 alone. Then calls for each refusal number.
 #![tactic(auto)]
 
-use libc::STDOUT_FILENO;
 use member::{Heard, Member, Opened, Said};
 use sets::{Set, is_named};
+use std::io::Print;
 
-fn main() {
-    print(b"round id says row estimate decided silent\n");
-    play_all();
-    print(b"call number\n");
-    refused_openings();
-    refused_states();
-    refused_rows();
+fn main(rt: HostRuntime) {
+    print(&rt, b"round id says row estimate decided silent\n");
+    play_all(&rt);
+    print(&rt, b"call number\n");
+    refused_openings(&rt);
+    refused_states(&rt);
+    refused_rows(&rt);
 }
 
 // Rounds 1 to t + 1, each from the states that the round before left.
-fn play_all() {
+fn play_all(rt: &impl Print) {
     let mut members = opened_all();
     let mut round: usize = 1;
     while round <= 4 {
-        let next = play(members, round);
+        let next = play(rt, members, round);
         members = next;
         round += 1;
     }
 }
 
-fn print(text: &[u8]) {
-    io::write_all(STDOUT_FILENO, text);
+fn print(rt: &impl Print, text: &[u8]) {
+    let _ = rt.write_all(text);
 }
 
-fn print_number(x: u8) {
-    io::print_decimal(STDOUT_FILENO, x as u64);
+fn print_number(rt: &impl Print, x: u8) {
+    let _ = rt.print(x);
 }
 
 fn a_member(round: u8, decided: u8) -> Member {
@@ -102,37 +102,37 @@ fn row_of(members: [Member; 4], hearer: usize, round: usize) -> [u8; 4] {
 }
 
 // One round of all: every row comes from the states at its start.
-fn play(members: [Member; 4], round: usize) -> [Member; 4] {
+fn play(rt: &impl Print, members: [Member; 4], round: usize) -> [Member; 4] {
     [
-        step(members, 0, round),
-        step(members, 1, round),
-        step(members, 2, round),
-        step(members, 3, round),
+        step(rt, members, 0, round),
+        step(rt, members, 1, round),
+        step(rt, members, 2, round),
+        step(rt, members, 3, round),
     ]
 }
 
 // The process at this place plays the round: it hears its row and is printed with what it becomes. One
 // that has crashed or stopped keeps its state.
-fn step(members: [Member; 4], place: usize, round: usize) -> Member {
+fn step(rt: &impl Print, members: [Member; 4], place: usize, round: usize) -> Member {
     let m = at(members, place);
     if place == 0 {
-        show_crash(m, round);
+        show_crash(rt, m, round);
         return m;
     }
     let row = row_of(members, place, round);
     let answer = hearing::hear(m, &row);
     let Heard::Moved(next) = answer else {
-        show(m, b"-", round, m);
+        show(rt, m, b"-", round, m);
         return m;
     };
-    show(m, &letters(row), round, next);
+    show(rt, m, &letters(row), round, next);
     next
 }
 
 // Process 1 is printed in its crash round alone. It hears nothing in it.
-fn show_crash(m: Member, round: usize) {
+fn show_crash(rt: &impl Print, m: Member, round: usize) {
     if round == 1 {
-        show(m, b"-", round, m);
+        show(rt, m, b"-", round, m);
     }
 }
 
@@ -169,87 +169,87 @@ fn silent_letters(m: Member) -> [u8; 4] {
 }
 
 // One line of the first table: the round, the process, what it said and heard, and what it becomes.
-fn show(before: Member, row: &[u8], round: usize, after: Member) {
-    io::print_decimal(STDOUT_FILENO, round as u64);
-    print(b" ");
-    print_number(before.id);
-    print(b" ");
-    print_number(said(before));
-    print(b" ");
-    print(row);
-    print(b" ");
-    print_number(after.estimate);
-    print(b" ");
-    print_number(after.decided);
-    print(b" ");
-    print(&silent_letters(after));
-    print(b"\n");
+fn show(rt: &impl Print, before: Member, row: &[u8], round: usize, after: Member) {
+    let _ = rt.print(round);
+    print(rt, b" ");
+    print_number(rt, before.id);
+    print(rt, b" ");
+    print_number(rt, said(before));
+    print(rt, b" ");
+    print(rt, row);
+    print(rt, b" ");
+    print_number(rt, after.estimate);
+    print(rt, b" ");
+    print_number(rt, after.decided);
+    print(rt, b" ");
+    print(rt, &silent_letters(after));
+    print(rt, b"\n");
 }
 
-fn show_number(call: &[u8], number: u8) {
-    print(call);
-    print(b" ");
-    print_number(number);
-    print(b"\n");
+fn show_number(rt: &impl Print, call: &[u8], number: u8) {
+    print(rt, call);
+    print(rt, b" ");
+    print_number(rt, number);
+    print(rt, b"\n");
 }
 
 // Opening with each limit broken in turn, and with numbers at the far end of their types.
-fn refused_openings() {
-    show_open(3, 3, 1, 1);
-    show_open(18446744073709551615, 3, 1, 1);
-    show_open(4, 4, 1, 1);
-    show_open(4, 18446744073709551615, 1, 1);
-    show_open(4, 3, 0, 1);
-    show_open(4, 3, 18446744073709551615, 1);
-    show_open(4, 3, 1, 2);
-    show_open(4, 3, 1, 255);
+fn refused_openings(rt: &impl Print) {
+    show_open(rt, 3, 3, 1, 1);
+    show_open(rt, 18446744073709551615, 3, 1, 1);
+    show_open(rt, 4, 4, 1, 1);
+    show_open(rt, 4, 18446744073709551615, 1, 1);
+    show_open(rt, 4, 3, 0, 1);
+    show_open(rt, 4, 3, 18446744073709551615, 1);
+    show_open(rt, 4, 3, 1, 2);
+    show_open(rt, 4, 3, 1, 255);
 }
 
-fn show_open(n: usize, t: usize, id: usize, vote: u8) {
+fn show_open(rt: &impl Print, n: usize, t: usize, id: usize, vote: u8) {
     let answer = member::open(n, t, id, vote);
     let Opened::Refused(number) = answer else {
-        show_number(b"open", 0);
+        show_number(rt, b"open", 0);
         return;
     };
-    show_number(b"open", number);
+    show_number(rt, b"open", number);
 }
 
 // States that are not in range, said and heard.
-fn refused_states() {
-    show_say(a_member(0, 0));
-    show_say(a_member(255, 255));
-    show_hear(a_member(5, 0), b"\x02\x02\x02\x02");
-    show_hear(a_member(255, 255), b"");
-    show_hear(a_member(5, 4), b"\x00\x00\x00\x00");
-    show_say(naming(1));
-    show_say(naming(16));
-    show_hear(naming(18446744073709551615), b"\x02\x02\x02\x02");
+fn refused_states(rt: &impl Print) {
+    show_say(rt, a_member(0, 0));
+    show_say(rt, a_member(255, 255));
+    show_hear(rt, a_member(5, 0), b"\x02\x02\x02\x02");
+    show_hear(rt, a_member(255, 255), b"");
+    show_hear(rt, a_member(5, 4), b"\x00\x00\x00\x00");
+    show_say(rt, naming(1));
+    show_say(rt, naming(16));
+    show_hear(rt, naming(18446744073709551615), b"\x02\x02\x02\x02");
 }
 
-fn show_say(m: Member) {
+fn show_say(rt: &impl Print, m: Member) {
     let answer = member::say(m);
     let Said::Refused(number) = answer else {
-        show_number(b"say", 0);
+        show_number(rt, b"say", 0);
         return;
     };
-    show_number(b"say", number);
+    show_number(rt, b"say", number);
 }
 
 // Rows with each rule broken in turn, and one that is accepted.
-fn refused_rows() {
-    show_hear(a_member(1, 0), b"\x02\x02\x02");
-    show_hear(a_member(1, 0), b"\x02\x05\x02\x02");
-    show_hear(a_member(1, 0), b"\x01\x02\x02\x02");
-    show_hear(a_member(2, 0), b"\x02\x04\x02\x02");
-    show_hear(a_member(3, 0), b"\x02\x03\x04\x02");
-    show_hear(a_member(3, 0), b"\x02\x03\x03\x02");
+fn refused_rows(rt: &impl Print) {
+    show_hear(rt, a_member(1, 0), b"\x02\x02\x02");
+    show_hear(rt, a_member(1, 0), b"\x02\x05\x02\x02");
+    show_hear(rt, a_member(1, 0), b"\x01\x02\x02\x02");
+    show_hear(rt, a_member(2, 0), b"\x02\x04\x02\x02");
+    show_hear(rt, a_member(3, 0), b"\x02\x03\x04\x02");
+    show_hear(rt, a_member(3, 0), b"\x02\x03\x03\x02");
 }
 
-fn show_hear(m: Member, row: &[u8]) {
+fn show_hear(rt: &impl Print, m: Member, row: &[u8]) {
     let answer = hearing::hear(m, row);
     let Heard::Refused(number, _) = answer else {
-        show_number(b"hear", 0);
+        show_number(rt, b"hear", 0);
         return;
     };
-    show_number(b"hear", number);
+    show_number(rt, b"hear", number);
 }

@@ -7,7 +7,7 @@ use Rattle.marked.specs.Marked.{cases}
 use Rattle.cases.proofs.show_cases.Given as goal
 
 abbrev pub invariant-loop-k : goal.invariant-loop-k
-invariant-loop-k l = Unit {0}
+invariant-loop-k g l = Unit {0}
 
 abbrev pub decreases-loop-k : goal.decreases-loop-k
-decreases-loop-k l = length cases - l.k
+decreases-loop-k g l = length cases - l.k

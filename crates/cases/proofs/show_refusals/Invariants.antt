@@ -7,7 +7,7 @@ use Rattle.refusals.specs.Refused.{refusals}
 use Rattle.cases.proofs.show_refusals.Given as goal
 
 abbrev pub invariant-loop-k : goal.invariant-loop-k
-invariant-loop-k l = Unit {0}
+invariant-loop-k g l = Unit {0}
 
 abbrev pub decreases-loop-k : goal.decreases-loop-k
-decreases-loop-k l = length refusals - l.k
+decreases-loop-k g l = length refusals - l.k

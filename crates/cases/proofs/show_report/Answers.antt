@@ -13,9 +13,9 @@ inside : (c : After-put_report-end) → c.put_report-end.result ≤ length c.put
 inside c = let w = writes_inside c.put_report-end.ensures.written zero-le in let place = w.0 in let long = w.1 in omega arith
 
 pub slice_bounds-bytes-end : goal.slice_bounds-bytes-end
-slice_bounds-bytes-end c =
+slice_bounds-bytes-end g c =
     inside (goal.at.slice_bounds-bytes-end c).After-put_report-end
 
 pub slice_bounds-print-end : goal.slice_bounds-print-end
-slice_bounds-print-end c =
+slice_bounds-print-end g c =
     sym (length-take-le _ _ (inside (goal.at.slice_bounds-print-end c).After-put_report-end))

@@ -4,7 +4,7 @@ use borrow.Author.Rules.{rules}
 use Rattle.exchange.proofs.play_all.Given as goal
 
 abbrev pub invariant-loop-round : goal.invariant-loop-round
-invariant-loop-round l = l.round ≤ 5
+invariant-loop-round g l = l.round ≤ 5
 
 abbrev pub decreases-loop-round : goal.decreases-loop-round
-decreases-loop-round l = 5 - l.round
+decreases-loop-round g l = 5 - l.round
