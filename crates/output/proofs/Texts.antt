@@ -21,7 +21,6 @@ use Rattle.reader.specs.Answers.{read_answer}
 use Rattle.reader.proofs.Texts.{text_accepted, its_n}
 use Rattle.output.specs.declared.Output.{Output}
 use Rattle.output.specs.declared.Wanted.{Wanted}
-use Rattle.output.specs.declared.Wanted.TheVariants as Wanted
 use Rattle.output.proofs.Buffer.{zeros_long}
 use Rattle.output.specs.Answers.{zeros, output_size, output_is, shown_of, Prints, OutputKeepsPromises}
 

@@ -9,7 +9,6 @@ use Rattle.text.specs.Output.{report_shown, outcome_shown, reasons_shown}
 use Rattle.text.specs.Facts.{PrintsPromises, PrintsOutcome, PrintsReasons}
 use Rattle.output.specs.declared.Output.{Output}
 use Rattle.output.specs.declared.Wanted.{Wanted}
-use Rattle.output.specs.declared.Wanted.TheVariants as Wanted
 
 -- so many zeros
 abbrev pub zeros : ℕ → List ℕ

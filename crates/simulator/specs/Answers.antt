@@ -13,7 +13,6 @@ use Rattle.simulator.specs.declared.Simulated.{Simulated}
 use Rattle.simulator.specs.declared.Simulated.TheVariants.{Completed, Refused}
 use Rattle.simulator.specs.declared.Outcome.{Outcome}
 use Rattle.simulator.specs.declared.Concluded.{Concluded}
-use Rattle.simulator.specs.declared.Concluded.TheVariants as Concluded
 
 -- for each case of the answer's enum document 01's number and values; `tt` stands for nothing: a refusal gives its number only
 abbrev pub simulated_is : Simulated → Answer Counts (Unit {0})

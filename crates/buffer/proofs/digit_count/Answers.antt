@@ -1,5 +1,4 @@
 -- `digit_count` meets its contract: `io::decimal` answers the fewest digits. Assumes nothing.
-use borrow.Author.Rules.{rules}
 use Rattle.buffer.proofs.Digits.{fewest_digits}
 use Rattle.buffer.proofs.digit_count.Goals as goal
 

@@ -1,6 +1,5 @@
 -- `put_byte` meets its contract: the byte is stored if there is a place left, and else left out. Assumes nothing.
 use native.Mathlib.Omega.{arith}
-use borrow.Author.Rules.{rules}
 use Rattle.buffer.proofs.Written.{byte_stored, byte_left_out}
 use Rattle.buffer.proofs.put_byte.Goals as goal
 

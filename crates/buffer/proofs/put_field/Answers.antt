@@ -1,6 +1,5 @@
 -- `put_field` meets its contract: the digits that `io::decimal` gives are written, and then the byte that ends them. Assumes nothing.
 use mathlib.Core.Path.{◌∙◌}
-use borrow.Author.Rules.{rules}
 use Rattle.fields.specs.Decimal.{decimal, field}
 use Rattle.buffer.proofs.Digits.{digits_decimal}
 use Rattle.buffer.proofs.Written.{writes_same, writes_more}

@@ -4,7 +4,6 @@ use native.Mathlib.Omega.{arith}
 use Rattle.schedule.specs.Schedule.{schedule_of}
 use Rattle.run.specs.Protocol.{fcwfa}
 use Rattle.execution.proofs.Whole.{refused_leaves, accepted_alone, accepted_leaves}
-use borrow.Author.Rules.{rules}
 use Rattle.execution.proofs.play_rounds.Goals as goal
 
 pub returns-then-question-ne0 : goal.returns-then-question-ne0

@@ -1,7 +1,6 @@
 -- `play_to_decision` meets its contract: a refused schedule leaves nobody, and an accepted one what `decide` gives (Searching.antt). Assumes nothing.
 use mathlib.Core.Path.{◌≡◌, refl, sym, ap, ◌∙◌}
 use mathlib.Core.Bool.{true}
-use borrow.Author.Rules.{rules}
 use Rattle.sets.specs.Largest.{largest}
 use Rattle.schedule.specs.Schedule.{schedule_of}
 use Rattle.schedule.specs.Questions.{question}

@@ -2,7 +2,6 @@
 use mathlib.Core.Path.{◌≡◌, sym}
 use mathlib.Core.Bool.{true, false}
 use native.Mathlib.Omega.{arith}
-use borrow.Author.Rules.{rules}
 use Rattle.laws.proofs.Test.{was_true, was_false}
 use Rattle.fields.specs.Fields.{has_byte}
 use Rattle.fields.proofs.Forms.{byte_within, ended_not, ended_is}

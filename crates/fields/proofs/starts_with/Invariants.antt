@@ -1,13 +1,8 @@
 -- `starts_with` meets its contract: after i letters what is left to compare are the other letters and the text from i on. Assumes nothing.
-use mathlib.Core.Path.{◌≡◌, refl, sym, ◌∙◌}
-use mathlib.Core.Bool.{true, false}
+use mathlib.Core.Path.{◌≡◌}
 use Prim.Native.Nat.{◌-◌, ◌≤◌}
-use native.Mathlib.Omega.{arith}
-use borrow.Author.Rules.{rules}
-use lib.ListN.{length, get_or, drop}
-use Rattle.laws.proofs.Test.{was_true, was_false, and_goes_on, and_no_left}
-use Rattle.fields.specs.Fields.{starts_with, has_byte}
-use Rattle.fields.proofs.Prefix.{starts_at, starts_past}
+use lib.ListN.{length, drop}
+use Rattle.fields.specs.Fields.{starts_with}
 use Rattle.fields.proofs.starts_with.Given as goal
 
 abbrev pub invariant-loop-i : goal.invariant-loop-i

@@ -1,6 +1,5 @@
 -- `read_heading` meets its contract: its answer is that of `starts_with`. Assumes nothing.
 use mathlib.Core.Path.{sym}
-use borrow.Author.Rules.{rules}
 use Rattle.laws.proofs.Test.{was_false, was_true}
 use Rattle.forms.proofs.read_heading.Goals as goal
 

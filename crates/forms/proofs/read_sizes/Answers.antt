@@ -1,6 +1,5 @@
 -- `read_sizes` meets its contract: each field that is found hands the text after it to the next. Assumes nothing.
 use mathlib.Core.Path.{◌≡◌, refl}
-use borrow.Author.Rules.{rules}
 use Rattle.fields.specs.Found.{found}
 use Rattle.fields.specs.Fields.{space, number_field}
 use Rattle.forms.proofs.LineForms.{field_found, field_wrong, no_n, no_t, both_sizes}

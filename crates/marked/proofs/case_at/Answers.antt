@@ -1,7 +1,6 @@
 -- `case_at` meets its contract. Assumes nothing.
 use native.Mathlib.Omega.{arith}
 use Rattle.marked.proofs.Entries.{case_found, no_case_lem}
-use borrow.Author.Rules.{rules}
 use Rattle.marked.proofs.case_at.Goals as goal
 
 pub returns-then-k-ge11 : goal.returns-then-k-ge11

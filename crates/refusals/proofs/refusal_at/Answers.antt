@@ -1,7 +1,6 @@
 -- `refusal_at` meets its contract. Assumes nothing.
 use native.Mathlib.Omega.{arith}
 use Rattle.refusals.proofs.Entries.{refusal_found, no_refusal_lem}
-use borrow.Author.Rules.{rules}
 use Rattle.refusals.proofs.refusal_at.Goals as goal
 
 pub returns-then-k-ge6 : goal.returns-then-k-ge6

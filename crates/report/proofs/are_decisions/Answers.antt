@@ -1,12 +1,7 @@
 -- `are_decisions` meets its contract: after i places it has counted the decisions among the first i. Assumes nothing.
 use mathlib.Core.Path.{◌≡◌}
-use mathlib.Core.Bool.{Bool}
-use mathlib.Core.List.{List}
-use Prim.Native.Nat.{ℕ, ◌≤◌, ◌-◌}
 use native.Mathlib.Omega.{arith}
-use borrow.Author.Rules.{rules}
-use lib.Dec.{leb}
-use lib.ListN.{length, get_or}
+use lib.ListN.{length}
 use Rattle.laws.specs.Below.{count}
 use Rattle.laws.proofs.Below.{count_none, count_step, count_room, count_end}
 use Rattle.report.specs.Shown.{are_decisions}

@@ -3,13 +3,9 @@ use mathlib.Core.Path.{◌≡◌}
 use mathlib.Core.Bool.{Bool}
 use mathlib.Core.List.{List}
 use Prim.Native.Nat.{ℕ, ◌≤◌, ◌-◌}
-use native.Mathlib.Omega.{arith}
-use borrow.Author.Rules.{rules}
 use lib.Dec.{leb}
 use lib.ListN.{length, get_or}
 use Rattle.laws.specs.Below.{count}
-use Rattle.laws.proofs.Below.{count_none, count_step, count_room, count_end}
-use Rattle.report.specs.Shown.{are_decisions}
 use Rattle.report.proofs.are_decisions.Given as goal
 
 abbrev pub decision : List ℕ → ℕ → Bool

@@ -1,5 +1,4 @@
 -- `put_counts` meets its contract: its six fields are written in order. Assumes nothing.
-use borrow.Author.Rules.{rules}
 use Rattle.text.specs.Output.{counts_line}
 use Rattle.buffer.proofs.Written.{writes_more}
 use Rattle.report.proofs.put_counts.Goals as goal

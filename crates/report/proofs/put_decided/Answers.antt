@@ -2,7 +2,6 @@
 use mathlib.Core.Path.{ap}
 use mathlib.Core.List.{[], ◌∷◌}
 use Prim.Native.Nat.{ℕ}
-use borrow.Author.Rules.{rules}
 use Rattle.buffer.proofs.Written.{writes_same, writes_more}
 use Rattle.report.proofs.put_decided.Goals as goal
 

@@ -1,5 +1,4 @@
 -- `put_lines` meets its contract: headings and lines are written in order. Assumes nothing.
-use borrow.Author.Rules.{rules}
 use Rattle.text.specs.Output.{report_text}
 use Rattle.buffer.proofs.Written.{writes_more}
 use Rattle.report.proofs.put_lines.Goals as goal

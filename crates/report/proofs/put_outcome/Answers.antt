@@ -1,7 +1,6 @@
 -- `put_outcome` meets its contract: what is no decision is not written, and of any other the two lines are. Assumes nothing.
 use mathlib.Core.Path.{sym}
 use native.Mathlib.Omega.{arith}
-use borrow.Author.Rules.{rules}
 use Rattle.text.specs.Output.{outcome_text}
 use Rattle.buffer.proofs.Written.{writes_none, writes_same, writes_more}
 use Rattle.report.proofs.Decisions.{written_outcome_lem, no_outcome_written}

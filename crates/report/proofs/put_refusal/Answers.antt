@@ -1,5 +1,4 @@
 -- `put_refusal` meets its contract: its parts are written in order. Assumes nothing.
-use borrow.Author.Rules.{rules}
 use Rattle.text.specs.Output.{refusal_text}
 use Rattle.buffer.proofs.Written.{writes_more}
 use Rattle.report.proofs.put_refusal.Goals as goal

@@ -1,5 +1,4 @@
 -- `conclude` meets its contract: a refused schedule has no outcome, and an accepted one that of the process that was found (Conclusion.antt). Assumes nothing.
-use borrow.Author.Rules.{rules}
 use Rattle.simulator.proofs.Conclusion.{refused_concludes, decided_concludes}
 use Rattle.simulator.proofs.conclude.Goals as goal
 

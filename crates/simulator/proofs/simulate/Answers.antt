@@ -1,7 +1,6 @@
 -- `simulate` meets its contract: a refused call is that of Whole.antt's first part, and an accepted one gives what its second part shows. Assumes
 -- nothing.
 use native.Mathlib.Omega.{arith}
-use borrow.Author.Rules.{rules}
 use Rattle.schedule.specs.Schedule.{schedule_of}
 use Rattle.run.specs.Protocol.{fcwfa}
 use Rattle.simulator.proofs.Whole.{refused_answer, kept_table, refused_keeps, tables_long_lem, small, completed_answer, given_decisions, given_rounds, given_is, passed, completed_keeps}

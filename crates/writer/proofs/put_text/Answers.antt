@@ -1,5 +1,4 @@
 -- `put_text` meets its contract: headings and lines are written in order. Assumes nothing.
-use borrow.Author.Rules.{rules}
 use Rattle.text.specs.Written.{sizes_line, text_of}
 use Rattle.buffer.proofs.Written.{writes_more}
 use Rattle.writer.proofs.put_text.Goals as goal

@@ -5,7 +5,6 @@ use Rattle.member.specs.declared.Member.{Member}
 use Rattle.member.specs.Answers.{heard_is, hear_answer}
 use Rattle.execution.specs.Calls.{calls}
 use Rattle.execution.proofs.Turns.{heard_in_range}
-use borrow.Author.Rules.{rules}
 use Rattle.execution.proofs.calls.heard.Goals as goal
 
 pub in_turn-requires : goal.in_turn-requires

@@ -1,7 +1,6 @@
 -- `in_turn` meets its contract: what a member in range says is one of the codes, and is not refused. Assumes nothing.
 use mathlib.Core.Path.{refl, ◌∙◌}
 use native.Mathlib.Omega.{arith}
-use borrow.Author.Rules.{rules}
 use Rattle.member.proofs.Range.{code_low}
 use Rattle.sets.specs.Largest.{largest}
 use Rattle.execution.proofs.Turns.{in_range_says}

@@ -6,7 +6,6 @@ use Rattle.run.specs.Protocol.{nobody}
 use Rattle.member.specs.Answers.{opened_is, open_answer}
 use Rattle.execution.specs.Calls.{calls}
 use Rattle.execution.proofs.Turns.{nobody_says, opened_in_range}
-use borrow.Author.Rules.{rules}
 use Rattle.execution.proofs.calls.opened.Goals as goal
 
 pub in_turn-requires : goal.in_turn-requires

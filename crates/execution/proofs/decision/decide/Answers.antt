@@ -1,6 +1,5 @@
 -- `decide` meets its contract: either grid has a row for each process. Assumes nothing.
 use native.Mathlib.Omega.{arith}
-use borrow.Author.Rules.{rules}
 use mathlib.Core.Bool.{true}
 use Rattle.sets.specs.Largest.{largest}
 use Rattle.schedule.specs.Schedule.{schedule_of}
@@ -18,4 +17,3 @@ decide_on-requires-2 c =
     let s = schedule_of a.n a.t a.votes.now a.crashes.now a.reaches.now in
     let n_high = (question_accepted s largest true pre).n_high in
     record { accepted = pre; size = omega arith }
-

@@ -1,18 +1,12 @@
 -- `decide_on` meets its contract: each turn plays one round (AllRounds.antt) and looks for a process that is decided after it (Searching.antt). Assumes
 -- nothing.
 use Prim.Native.Nat.{◌+◌, ◌-◌}
-use mathlib.Core.Bool.{true}
-use mathlib.Core.Path.{◌≡◌, refl}
-use native.Mathlib.Omega.{arith}
-use borrow.Author.Rules.{rules}
+use mathlib.Core.Path.{◌≡◌}
 use lib.ListN.{length}
-use Rattle.sets.specs.Largest.{largest}
 use Rattle.schedule.specs.Schedule.{schedule_of}
-use Rattle.schedule.proofs.Accepted.{question_accepted}
-use Rattle.run.proofs.Theorem.{accepted_run}
 use Rattle.execution.specs.Calls.{calls}
-use Rattle.execution.proofs.AllRounds.{Between, starts, said_at, codes_long, goes_on}
-use Rattle.execution.proofs.Searching.{Searched, nothing_searched, round_left, searches_on, place_low, first_decides}
+use Rattle.execution.proofs.AllRounds.{Between}
+use Rattle.execution.proofs.Searching.{Searched}
 use Rattle.execution.proofs.decision.decide_on.Given as goal
 
 abbrev pub invariant-loop-place : goal.invariant-loop-place

@@ -1,5 +1,4 @@
 -- `lowest_decided` meets its contract: nobody before the place looked at is decided. Assumes nothing.
-use Prim.Native.Nat.{ℕ, ◌-◌, ◌≤◌, ◌<◌}
 use mathlib.Core.Path.{◌≡◌}
 use native.Mathlib.Omega.{arith}
 use Rattle.laws.proofs.Counting.{below_or_top}

@@ -1,10 +1,7 @@
 -- `lowest_decided` meets its contract: nobody before the place looked at is decided. Assumes nothing.
 use Prim.Native.Nat.{ℕ, ◌-◌, ◌≤◌, ◌<◌}
 use mathlib.Core.Path.{◌≡◌}
-use native.Mathlib.Omega.{arith}
-use Rattle.laws.proofs.Counting.{below_or_top}
 use Rattle.run.specs.Report.{round_of}
-use Rattle.run.proofs.Outcome.{lowest_is}
 use Rattle.execution.proofs.decision.lowest_decided.Given as goal
 
 abbrev pub invariant-loop-i : goal.invariant-loop-i

@@ -2,7 +2,6 @@
 use mathlib.Core.Path.{ap}
 use lib.ListN.{replicate}
 use Rattle.sets.specs.Largest.{largest}
-use borrow.Author.Rules.{rules}
 use Rattle.execution.proofs.grid.all_rows.Goals as goal
 
 pub returns : goal.returns

@@ -1,6 +1,5 @@
 -- `play` meets its contract: either grid has a row for each process. Assumes nothing.
 use native.Mathlib.Omega.{arith}
-use borrow.Author.Rules.{rules}
 use mathlib.Core.Bool.{true}
 use Rattle.sets.specs.Largest.{largest}
 use Rattle.schedule.specs.Schedule.{schedule_of}
@@ -19,4 +18,3 @@ play_on-requires-2 c =
     let s = schedule_of a.n a.t a.votes.now a.crashes.now a.reaches.now in
     let n_high = (question_accepted s largest true pre.accepted).n_high in
     record { accepted = pre.accepted; rounds = pre.rounds; size = omega arith }
-

@@ -1,18 +1,11 @@
 -- `play_on` meets its contract: each turn plays one round (AllRounds.antt), and after a round in which nothing is sent nothing happens any more. Assumes
 -- nothing.
 use Prim.Native.Nat.{◌-◌}
-use mathlib.Core.Bool.{true}
-use mathlib.Core.Path.{◌≡◌, refl, sym, ◌∙◌}
-use native.Mathlib.Omega.{arith}
-use borrow.Author.Rules.{rules}
+use mathlib.Core.Path.{◌≡◌}
 use lib.ListN.{length}
-use Rattle.sets.specs.Largest.{largest}
 use Rattle.schedule.specs.Schedule.{schedule_of}
-use Rattle.schedule.proofs.Accepted.{question_accepted}
-use Rattle.run.specs.Protocol.{fcwfa}
-use Rattle.run.proofs.Theorem.{accepted_run}
 use Rattle.execution.specs.Calls.{calls}
-use Rattle.execution.proofs.AllRounds.{Between, Counted, nothing_counted, starts, said_at, codes_long, goes_on, sent_in, counts_on, ends_last, ends_silent}
+use Rattle.execution.proofs.AllRounds.{Between, Counted}
 use Rattle.execution.proofs.play.play_on.Given as goal
 
 abbrev pub invariant-loop-played : goal.invariant-loop-played

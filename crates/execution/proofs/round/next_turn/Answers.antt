@@ -1,6 +1,5 @@
 -- `next_turn` meets its contract: its tests are those of `state_after`. Assumes nothing.
 use mathlib.Core.Path.{sym, ◌∙◌}
-use borrow.Author.Rules.{rules}
 use Rattle.laws.proofs.Test.{was_false, was_true}
 use Rattle.run.proofs.Rounds.{crashed_stays, stopped_stays, other_moves}
 use Rattle.execution.specs.Calls.{calls}

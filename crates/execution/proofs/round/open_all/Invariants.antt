@@ -1,16 +1,11 @@
 -- `open_all` meets its contract: each turn opens one member and enters what it says. Assumes nothing.
 use Prim.Native.Nat.{◌+◌, ◌-◌, ◌≤◌}
-use mathlib.Core.Path.{◌≡◌, refl, ap, ◌∙◌}
-use native.Mathlib.Omega.{arith}
-use borrow.Author.Rules.{rules}
-use lib.ListN.{length, get_or, length-replicate}
-use Rattle.sets.specs.Largest.{largest, fitting}
+use mathlib.Core.Path.{◌≡◌}
+use lib.ListN.{length, get_or}
+use Rattle.sets.specs.Largest.{fitting}
 use Rattle.laws.specs.Filled.{Overwritten}
-use Rattle.laws.proofs.Overwritten.{over_start, over_more, over_long, over_all}
-use Rattle.run.specs.Protocol.{nobody}
 use Rattle.execution.specs.Calls.{calls}
 use Rattle.execution.specs.Rounds.{no_members}
-use Rattle.execution.proofs.OneRound.{all_opened, said_of}
 use Rattle.execution.proofs.round.open_all.Given as goal
 
 abbrev pub invariant-loop-i : goal.invariant-loop-i

@@ -1,21 +1,19 @@
 -- `play_round` meets its contract: each turn has one member hear the row that was delivered for it (OneRound.antt) and enters what it says next, and those
 -- after it are as they were, in the array and among the codes. Assumes nothing.
-use Prim.Native.Nat.{ℕ, ◌-◌, ◌≤◌}
-use mathlib.Core.List.{List, []}
+use Prim.Native.Nat.{ℕ}
+use mathlib.Core.List.{[]}
 use mathlib.Core.Path.{◌≡◌, refl, sym, ap, ap₂, ◌∙◌}
 use native.Mathlib.Omega.{arith}
 use borrow.Author.Rules.{rules}
-use lib.ListN.{length, get_or, take}
+use lib.ListN.{get_or, take}
 use lib.Seq.{length-take-le}
-use Rattle.sets.specs.Largest.{largest, fitting}
-use Rattle.laws.specs.Filled.{Overwritten}
+use Rattle.sets.specs.Largest.{fitting}
 use Rattle.laws.proofs.Overwritten.{over_start, over_more, over_past}
 use Rattle.member.specs.declared.Member.{Member}
 use Rattle.run.specs.Protocol.{nobody}
 use Rattle.run.specs.Run.{state_at, state_after}
 use Rattle.execution.specs.Calls.{calls}
 use Rattle.execution.proofs.OneRound.{all_heard, plays_round, all_said}
-use Rattle.execution.proofs.round.play_round.Invariants.{heard_at}
 use Rattle.execution.proofs.round.play_round.Goals as goal
 use Rattle.execution.proofs.round.play_round.Goals.{After-byte_at}
 

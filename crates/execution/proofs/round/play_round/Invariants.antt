@@ -2,19 +2,13 @@
 -- after it are as they were, in the array and among the codes. Assumes nothing.
 use Prim.Native.Nat.{ℕ, ◌-◌, ◌≤◌}
 use mathlib.Core.List.{List, []}
-use mathlib.Core.Path.{◌≡◌, refl, sym, ap, ap₂, ◌∙◌}
-use native.Mathlib.Omega.{arith}
-use borrow.Author.Rules.{rules}
+use mathlib.Core.Path.{◌≡◌}
 use lib.ListN.{length, get_or, take}
-use lib.Seq.{length-take-le}
 use Rattle.sets.specs.Largest.{largest, fitting}
 use Rattle.laws.specs.Filled.{Overwritten}
-use Rattle.laws.proofs.Overwritten.{over_start, over_more, over_past}
 use Rattle.member.specs.declared.Member.{Member}
-use Rattle.run.specs.Protocol.{nobody}
 use Rattle.run.specs.Run.{state_at, state_after}
 use Rattle.execution.specs.Calls.{calls}
-use Rattle.execution.proofs.OneRound.{all_heard, plays_round, all_said}
 use Rattle.execution.proofs.round.play_round.Given as goal
 
 abbrev pub heard_at : ℕ → List ℕ → List (List ℕ) → ℕ → List Member → ℕ → Member

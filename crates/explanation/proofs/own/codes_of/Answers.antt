@@ -1,13 +1,9 @@
 -- `codes_of` meets its contract: each turn enters what one member says. Assumes nothing.
-use Prim.Native.Nat.{ℕ, ◌-◌, ◌≤◌}
+use Prim.Native.Nat.{ℕ}
 use native.Mathlib.Omega.{arith}
-use borrow.Author.Rules.{rules}
-use lib.ListN.{replicate, length-replicate}
+use lib.ListN.{length-replicate}
 use Rattle.sets.specs.Largest.{largest}
-use Rattle.laws.specs.Filled.{Overwritten}
 use Rattle.laws.proofs.Overwritten.{over_start, over_more, over_all}
-use Rattle.run.specs.Run.{code_said}
-use Rattle.execution.specs.Calls.{calls}
 use Rattle.explanation.proofs.own.codes_of.Goals as goal
 
 pub loop-i-init : goal.loop-i-init

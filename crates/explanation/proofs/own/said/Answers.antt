@@ -4,7 +4,6 @@ use Prim.Native.Nat.{ℕ}
 use Rattle.laws.proofs.Answer.{answer_given, answer_kept}
 use Rattle.member.specs.Saying.{nothing}
 use Rattle.member.specs.Answers.{said_is, say_answer}
-use borrow.Author.Rules.{rules}
 use Rattle.explanation.proofs.own.said.Goals as goal
 
 pub returns-in-Code : goal.returns-in-Code

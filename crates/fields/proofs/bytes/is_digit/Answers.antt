@@ -1,6 +1,5 @@
 -- `is_digit` meets its contract: it asks what the definition asks. Assumes nothing.
 use mathlib.Core.Path.{◌≡◌}
-use borrow.Author.Rules.{rules}
 use Rattle.laws.specs.Test.{within}
 use Rattle.fields.specs.Decimal.{letter, is_digit}
 use Rattle.fields.proofs.bytes.is_digit.Goals as goal

@@ -1,13 +1,9 @@
 -- `letter_count` meets its contract: after j places k counts the letters 0 and 1 among the first j bytes, and is at most j. Assumes nothing.
 use mathlib.Core.Path.{◌≡◌, ap, ◌∙◌}
-use mathlib.Core.Bool.{Bool}
-use mathlib.Core.List.{List}
-use Prim.Native.Nat.{ℕ, ◌-◌, ◌≤◌}
+use Prim.Native.Nat.{ℕ}
 use native.Mathlib.Omega.{arith}
-use borrow.Author.Rules.{rules}
-use lib.ListN.{get_or}
 use Rattle.laws.specs.Test.{within}
-use Rattle.laws.specs.Below.{bit, count}
+use Rattle.laws.specs.Below.{bit}
 use Rattle.laws.proofs.Below.{count_none, count_step, count_room, count_end}
 use Rattle.fields.specs.Decimal.{letter}
 use Rattle.fields.proofs.letters.letter_count.Invariants.{is_bit}

@@ -1,9 +1,7 @@
 -- `reach_value` meets its contract: after j places the number is the sum of the first j bits, which is below 2 ^ j. Assumes nothing.
 use mathlib.Core.Path.{◌≡◌, ap, ◌∙◌}
-use mathlib.Core.List.{List}
 use Prim.Native.Nat.{ℕ, ◌+◌, ◌-◌, ◌*◌, ◌%◌, ◌^◌, ◌≤◌}
 use native.Mathlib.Omega.{arith}
-use borrow.Author.Rules.{rules}
 use lib.ListN.{get_or}
 use lib.Pow.{pow_mono}
 use Rattle.laws.specs.Below.{sum}

@@ -1,17 +1,10 @@
 -- `reach_value` meets its contract: after j places the number is the sum of the first j bits, which is below 2 ^ j. Assumes nothing.
-use mathlib.Core.Path.{◌≡◌, ap, ◌∙◌}
+use mathlib.Core.Path.{◌≡◌}
 use mathlib.Core.List.{List}
-use Prim.Native.Nat.{ℕ, ◌+◌, ◌-◌, ◌*◌, ◌%◌, ◌^◌, ◌≤◌}
-use native.Mathlib.Omega.{arith}
-use borrow.Author.Rules.{rules}
+use Prim.Native.Nat.{ℕ, ◌-◌, ◌*◌, ◌^◌, ◌≤◌}
 use lib.ListN.{get_or}
-use lib.Pow.{pow_mono}
 use Rattle.laws.specs.Below.{sum}
-use Rattle.laws.proofs.Below.{sum_start, sum_step, sum_end}
-use Rattle.sets.specs.Largest.{largest}
-use Rattle.sets.proofs.Theorem.{width_facts}
 use Rattle.fields.specs.Decimal.{letter}
-use Rattle.fields.proofs.Bits.{letter_at, reach_below}
 use Rattle.fields.proofs.letters.reach_value.Given as goal
 
 abbrev pub bit_at : List ℕ → ℕ → ℕ

@@ -1,17 +1,11 @@
 -- `put_reasons` meets its contract: after i processes their lines are written. The number in each fits a byte, since the reason has one. Assumes nothing.
-use mathlib.Core.Path.{◌≡◌, refl, ap}
-use Prim.Native.Nat.{ℕ, ◌+◌, ◌-◌, ◌≤◌, ◌<◌}
-use native.Mathlib.Omega.{arith}
-use borrow.Author.Count.{below_none, below_more}
-use borrow.Author.Rules.{rules}
+use mathlib.Core.Path.{◌≡◌}
+use Prim.Native.Nat.{ℕ, ◌-◌, ◌≤◌, ◌<◌}
 use lib.ListN.{length}
 use Rattle.schedule.specs.Schedule.{schedule_of}
-use Rattle.member.specs.declared.Reason.{Reason}
 use Rattle.run.specs.Why.{why_of}
-use Rattle.text.specs.Output.{reason_line, reason_lines}
-use Rattle.text.proofs.Lines.{no_lines, one_more_line}
+use Rattle.text.specs.Output.{reason_lines}
 use Rattle.buffer.specs.Buffer.{Writes}
-use Rattle.buffer.proofs.Written.{writes_none, writes_same, writes_more}
 use Rattle.output.proofs.reasons.put_reasons.Given as goal
 
 abbrev pub invariant-loop-i : goal.invariant-loop-i

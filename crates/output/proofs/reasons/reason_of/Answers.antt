@@ -1,7 +1,6 @@
 -- `reason_of` meets its contract: an accepted schedule is not refused, and neither is the number of one of its processes, so `explain` gives the reason.
 -- Assumes nothing.
 use mathlib.Core.Path.{◌≡◌, sym, ap, ◌∙◌}
-use borrow.Author.Rules.{rules}
 use Rattle.laws.specs.Answer.{accepted}
 use Rattle.laws.proofs.Answer.{not_accepted, value_or}
 use Rattle.sets.specs.Largest.{largest}

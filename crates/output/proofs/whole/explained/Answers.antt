@@ -1,6 +1,5 @@
 -- `explained` meets its contract: the heading and a line for each process are written into a buffer that is long enough. Assumes nothing.
 use mathlib.Core.Bool.{true}
-use borrow.Author.Rules.{rules}
 use Rattle.sets.specs.Largest.{largest}
 use Rattle.schedule.specs.Schedule.{schedule_of}
 use Rattle.text.specs.Output.{reasons_text}

@@ -1,10 +1,7 @@
 -- `fill` meets its contract: after i entries the first i are copied. Assumes nothing.
 use mathlib.Core.Path.{◌≡◌, refl, ◌∙◌}
-use Prim.Native.Nat.{◌-◌, ◌≤◌}
 use native.Mathlib.Omega.{arith}
-use lib.ListN.{length, get_or, length-set}
-use Rattle.sets.specs.Largest.{largest}
-use Rattle.laws.specs.Filled.{Overwritten}
+use lib.ListN.{length-set}
 use Rattle.laws.proofs.Overwritten.{over_start, over_more, over_all}
 use Rattle.reader.proofs.tables.fill.Goals as goal
 

@@ -1,11 +1,9 @@
 -- `fill` meets its contract: after i entries the first i are copied. Assumes nothing.
-use mathlib.Core.Path.{◌≡◌, refl, ◌∙◌}
+use mathlib.Core.Path.{◌≡◌}
 use Prim.Native.Nat.{◌-◌, ◌≤◌}
-use native.Mathlib.Omega.{arith}
-use lib.ListN.{length, get_or, length-set}
+use lib.ListN.{length, get_or}
 use Rattle.sets.specs.Largest.{largest}
 use Rattle.laws.specs.Filled.{Overwritten}
-use Rattle.laws.proofs.Overwritten.{over_start, over_more, over_all}
 use Rattle.reader.proofs.tables.fill.Given as goal
 
 abbrev pub invariant-loop-i : goal.invariant-loop-i

@@ -1,9 +1,7 @@
 -- `put_number` meets its contract: each arm writes what the line of its rules ends with. Assumes nothing.
-use mathlib.Core.Path.{◌≡◌, refl}
+use mathlib.Core.Path.{◌≡◌}
 use mathlib.Core.Logic.{◌⊎◌, inl, inr}
-use mathlib.Core.List.{[], ◌∷◌}
 use Prim.Native.Nat.{ℕ}
-use borrow.Author.Rules.{rules}
 use Rattle.laws.specs.Quoted.{quoted}
 use Rattle.lines.specs.Lines.{lf}
 use Rattle.fields.specs.Decimal.{field}

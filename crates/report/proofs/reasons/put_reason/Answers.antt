@@ -1,5 +1,4 @@
 -- `put_reason` meets its contract: its parts are written in the order of the line's definition. Assumes nothing.
-use borrow.Author.Rules.{rules}
 use Rattle.text.specs.Output.{reason_line}
 use Rattle.buffer.proofs.Written.{writes_more}
 use Rattle.report.proofs.reasons.put_reason.Goals as goal

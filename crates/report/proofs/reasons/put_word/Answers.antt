@@ -1,6 +1,5 @@
 -- `put_word` meets its contract: each arm writes the word for its rule. Assumes nothing.
 use mathlib.Core.Path.{sym, ap}
-use borrow.Author.Rules.{rules}
 use Rattle.text.specs.Output.{rule_word}
 use Rattle.buffer.proofs.Written.{writes_same}
 use Rattle.report.proofs.reasons.put_word.Goals as goal

@@ -1,5 +1,4 @@
 -- `counts_of` meets its contract, count by count. Assumes nothing.
-use borrow.Author.Rules.{rules}
 use Rattle.simulator.proofs.tables.counts_of.Goals as goal
 
 pub returns : goal.returns

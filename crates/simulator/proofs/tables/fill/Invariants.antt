@@ -1,11 +1,7 @@
 -- `fill` meets its contract: each turn stores the decision and the round of one process. Assumes nothing.
-use mathlib.Core.Path.{refl, sym, ◌∙◌}
 use Prim.Native.Nat.{◌-◌, ◌≤◌}
-use native.Mathlib.Omega.{arith}
-use borrow.Author.Rules.{rules}
 use lib.ListN.{length}
 use Rattle.laws.specs.Filled.{Filled}
-use Rattle.laws.proofs.Filled.{each_none, each_more, each_all, filled_list}
 use Rattle.run.specs.Report.{round_of, decision_of}
 use Rattle.simulator.proofs.tables.fill.Given as goal
 

@@ -2,7 +2,6 @@
 -- nothing.
 use Prim.Native.Nat.{◌+◌, ◌≤◌}
 use native.Mathlib.Omega.{arith}
-use borrow.Author.Rules.{rules}
 use Rattle.fields.proofs.Digits.{digits_few}
 use Rattle.text.specs.Written.{process_length}
 use Rattle.writer.proofs.lengths.process_length.Goals as goal

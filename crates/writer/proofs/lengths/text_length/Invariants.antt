@@ -1,15 +1,11 @@
 -- `text_length` meets its contract: after i processes the headings, the sizes and the lines of the first i are counted, each at most 76 bytes. Assumes
 -- nothing.
-use mathlib.Core.Path.{◌≡◌, refl}
-use Prim.Native.Nat.{ℕ, ◌+◌, ◌-◌, ◌*◌, ◌≤◌}
-use native.Mathlib.Omega.{arith}
-use borrow.Author.Rules.{rules}
+use mathlib.Core.Path.{◌≡◌}
+use Prim.Native.Nat.{◌+◌, ◌-◌, ◌*◌, ◌≤◌}
 use lib.ListN.{get_or}
 use Rattle.laws.specs.Below.{sum}
-use Rattle.laws.proofs.Below.{sum_start, sum_step, sum_end}
 use Rattle.fields.specs.Decimal.{digit_count}
-use Rattle.fields.proofs.Digits.{digits_few}
-use Rattle.text.specs.Written.{process_length, text_length}
+use Rattle.text.specs.Written.{process_length}
 use Rattle.writer.proofs.lengths.text_length.Given as goal
 
 abbrev pub invariant-loop-i : goal.invariant-loop-i

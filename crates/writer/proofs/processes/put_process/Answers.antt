@@ -1,5 +1,4 @@
 -- `put_process` meets its contract: its parts are written in the order of the line's definition. Assumes nothing.
-use borrow.Author.Rules.{rules}
 use Rattle.text.specs.Written.{process_line}
 use Rattle.buffer.proofs.Written.{writes_more}
 use Rattle.writer.proofs.processes.put_process.Goals as goal

@@ -1,13 +1,8 @@
 -- `put_processes` meets its contract: after i processes their lines are written. Assumes nothing.
-use mathlib.Core.Path.{◌≡◌, refl, ap}
-use mathlib.Core.List.{List}
-use Prim.Native.Nat.{ℕ, ◌-◌, ◌≤◌}
+use mathlib.Core.Path.{refl, ap}
 use native.Mathlib.Omega.{arith}
-use borrow.Author.Rules.{rules}
-use lib.ListN.{length, get_or}
-use Rattle.text.specs.Written.{each_line, process_line, process_lines}
+use Rattle.text.specs.Written.{process_lines}
 use Rattle.text.proofs.Lines.{no_lines, one_more_line}
-use Rattle.buffer.specs.Buffer.{Writes}
 use Rattle.buffer.proofs.Written.{writes_none, writes_same, writes_more}
 use Rattle.writer.proofs.processes.put_processes.Invariants.{lines}
 use Rattle.writer.proofs.processes.put_processes.Goals as goal
