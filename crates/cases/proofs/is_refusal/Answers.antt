@@ -1,5 +1,4 @@
 -- `is_refusal` meets its contract: an entry that is found stands before the table's end. Assumes nothing.
-use borrow.Author.Rules.{rules}
 use borrow.Author.Tests.{ltb-true}
 use mathlib.Core.Path.{◌∙◌, sym, ap}
 use Rattle.cases.proofs.is_refusal.Goals as goal

@@ -1,7 +1,5 @@
 -- `show_cases` ends: each case that is found stands before the table's end. Assumes nothing.
 use Prim.Native.Nat.{◌-◌}
-use native.Mathlib.Omega.{arith}
-use borrow.Author.Rules.{rules}
 use lib.ListN.{length}
 use Rattle.marked.specs.Marked.{cases}
 use Rattle.cases.proofs.show_cases.Given as goal

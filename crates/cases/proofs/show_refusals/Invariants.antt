@@ -1,7 +1,5 @@
 -- `show_refusals` ends: each refused schedule that is found stands before the table's end. Assumes nothing.
 use Prim.Native.Nat.{◌-◌}
-use native.Mathlib.Omega.{arith}
-use borrow.Author.Rules.{rules}
 use lib.ListN.{length}
 use Rattle.refusals.specs.Refused.{refusals}
 use Rattle.cases.proofs.show_refusals.Given as goal

@@ -1,6 +1,5 @@
 -- `play_all` ends: it plays rounds 1 to 4. Assumes nothing.
 use Prim.Native.Nat.{◌≤◌, ◌-◌}
-use borrow.Author.Rules.{rules}
 use Rattle.exchange.proofs.play_all.Given as goal
 
 abbrev pub invariant-loop-round : goal.invariant-loop-round
