@@ -14,7 +14,7 @@ use std::io::{Eprint, Print};
 
 fn main(rt: HostRuntime) {
     let mut input = [0u8; LONGEST + 1];
-    let count = input::read_full(&mut rt.stdin(), &mut input);
+    let count = input::count_in(input::read_full(&mut rt.stdin(), &mut input));
     let answer = output::printed(&input[..count], Wanted::Reasons);
     let bytes = answer.bytes;
     let length = answer.length;

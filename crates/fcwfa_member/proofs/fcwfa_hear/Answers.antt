@@ -1,6 +1,5 @@
 -- `fcwfa_hear` meets its contract: its number and its bytes are those of the answer of `hear`. Assumes nothing.
 use mathlib.Core.Path.{sym, ap, ◌∙◌}
-use borrow.Author.Rules.{rules}
 use Rattle.laws.proofs.Answer.{answer_given, answer_kept}
 use Rattle.sets.specs.Largest.{largest}
 use Rattle.member.specs.Answers.{heard_is, hear_answer}

@@ -1,6 +1,5 @@
 -- `fcwfa_open` meets its contract: its number and its bytes are those of the answer of `open`. Assumes nothing.
 use mathlib.Core.Path.{sym, ap, ◌∙◌}
-use borrow.Author.Rules.{rules}
 use Rattle.laws.proofs.Answer.{answer_given, answer_kept}
 use Rattle.member.specs.Answers.{opened_is, open_answer}
 use Rattle.fcwfa_member.specs.Bytes.{state_bytes}

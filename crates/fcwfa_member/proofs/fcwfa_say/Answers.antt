@@ -1,6 +1,5 @@
 -- `fcwfa_say` meets its contract: its number and its code are those of the answer of `say`. Assumes nothing.
 use mathlib.Core.Path.{sym, ap, ◌∙◌}
-use borrow.Author.Rules.{rules}
 use Rattle.laws.proofs.Answer.{answer_given, answer_kept}
 use Rattle.sets.specs.Largest.{largest}
 use Rattle.member.specs.Answers.{said_is, say_answer}

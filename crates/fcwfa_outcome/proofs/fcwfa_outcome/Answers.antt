@@ -1,6 +1,5 @@
 -- `fcwfa_outcome` meets its contract: its number and the outcome are those of the answer of `conclude`. Assumes nothing.
 use mathlib.Core.Path.{refl, sym, ap, ◌∙◌}
-use borrow.Author.Rules.{rules}
 use Rattle.laws.proofs.Answer.{refused_is, answer_given, answer_kept}
 use Rattle.simulator.specs.Answers.{concluded_is, outcome_answer}
 use Rattle.fcwfa_outcome.specs.Numbers.{outcome_numbers}

@@ -1,7 +1,6 @@
 -- `fcwfa_count_crashes` meets its contract: the two numbers are those of the answer of `crash_count`. Assumes nothing.
 use mathlib.Core.Path.{refl}
 use mathlib.Core.List.{[], ◌∷◌}
-use borrow.Author.Rules.{rules}
 use Rattle.fcwfa_simulator.proofs.fcwfa_count_crashes.Goals as goal
 
 pub returns : goal.returns

@@ -1,6 +1,5 @@
 -- `fcwfa_simulate` meets its contract: its number, counts and tables are those of the answer of `simulate`. Assumes nothing.
 use mathlib.Core.Path.{sym, ap, ◌∙◌}
-use borrow.Author.Rules.{rules}
 use Rattle.laws.proofs.Answer.{refused_is, answer_given, answer_kept}
 use Rattle.simulator.specs.Answers.{simulated_is, simulate_answer}
 use Rattle.fcwfa_simulator.specs.Numbers.{counts_numbers}

@@ -1,7 +1,6 @@
 -- `fcwfa_read_schedule` meets its contract: its numbers and tables are those of the answer of `read`. Assumes nothing.
 use mathlib.Core.Path.{sym, ap, ◌∙◌}
 use Prim.Native.Nat.{ℕ}
-use borrow.Author.Rules.{rules}
 use Rattle.laws.specs.Answer.{Answer}
 use Rattle.text.specs.Forms.{Sizes}
 use Rattle.reader.specs.Answers.{reading_is}

@@ -1,7 +1,6 @@
 -- `fcwfa_write_schedule` meets its contract: its number, its buffer and the length are those of the answer of `write`. Assumes nothing.
 use mathlib.Core.Path.{sym, ap, ◌∙◌}
 use Prim.Native.Nat.{ℕ}
-use borrow.Author.Rules.{rules}
 use Rattle.laws.proofs.Answer.{answer_given, answer_kept}
 use Rattle.writer.specs.Answers.{writing_is, write_answer}
 use Rattle.fcwfa_texts.proofs.fcwfa_write_schedule.Goals as goal

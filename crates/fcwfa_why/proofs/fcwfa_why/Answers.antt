@@ -2,7 +2,6 @@
 use mathlib.Core.Path.{sym, ap, ◌∙◌}
 use mathlib.Core.List.{[], ◌∷◌}
 use Prim.Native.Nat.{ℕ}
-use borrow.Author.Rules.{rules}
 use Rattle.laws.proofs.Answer.{refused_is, answer_given, answer_kept}
 use Rattle.member.specs.Answers.{explained_is}
 use Rattle.explanation.specs.Answers.{why_answer}

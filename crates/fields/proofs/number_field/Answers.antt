@@ -43,8 +43,8 @@ returns-then-first-eq48 c =
     let a = c.args in
     let first = c.byte_at-first in
     let second = c.byte_at-second in
-    let zero-first : first.result ≡ letter 0 = omega arith in
-    record { read = sym (number_zero a.end a.text.now first.result first.ensures.read second.result second.ensures.read (digit_first (goal.at.returns-then-first-eq48 c).Else-not-is_digit) (digit_second (goal.at.returns-then-first-eq48 c).Else-not-is_digit-2) zero-first); within = tt }
+    let zero_first : first.result ≡ letter 0 = omega arith in
+    record { read = sym (number_zero a.end a.text.now first.result first.ensures.read second.result second.ensures.read (digit_first (goal.at.returns-then-first-eq48 c).Else-not-is_digit) (digit_second (goal.at.returns-then-first-eq48 c).Else-not-is_digit-2) zero_first); within = tt }
 
 -- both bytes as digits
 digits : (c : Else-first-eq48)

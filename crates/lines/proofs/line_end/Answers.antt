@@ -5,7 +5,6 @@ use Rattle.lines.proofs.line_end.Goals as goal
 
 pub returns-then-text-i-eq-LF : goal.returns-then-text-i-eq-LF
 returns-then-text-i-eq-LF c =
-    {- LABELS ended within -}
     let text = c.args.text.now in
     omega (arith, length_at text c.loop-i.i (omega arith) (omega arith))
 
@@ -16,5 +15,4 @@ loop-i-preserved c =
 
 pub returns : goal.returns
 returns c =
-    {- LABELS ended within -}
     omega (arith, length_end c.args.text.now c.loop-i.i (omega arith))

@@ -1,16 +1,9 @@
 -- `set_in` meets its contract: after k bytes the number is that of the first k, which is below 2 ^ (8 k). Assumes nothing.
 use mathlib.Core.Path.{◌≡◌}
 use mathlib.Core.List.{List}
-use Prim.Native.Nat.{ℕ, ◌+◌, ◌-◌, ◌*◌, ◌%◌, ◌^◌, ◌≤◌}
-use native.Mathlib.Omega.{arith}
-use borrow.Author.Rules.{rules}
+use Prim.Native.Nat.{ℕ, ◌+◌, ◌-◌, ◌*◌, ◌^◌, ◌≤◌}
 use lib.ListN.{get_or}
-use mir.Syntax.{w8}
-use mir.Val.{Fits}
-use lib.Pow.{pow_mono, shl_exact}
 use Rattle.laws.specs.Below.{sum}
-use Rattle.laws.proofs.Below.{sum_start, sum_step, sum_end}
-use Rattle.laws.proofs.Numerals.{numeral_below}
 use Rattle.fcwfa_member.proofs.bytes.set_in.Given as goal
 
 abbrev pub byte_at : List ℕ → ℕ → ℕ

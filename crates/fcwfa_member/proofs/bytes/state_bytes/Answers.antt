@@ -1,5 +1,4 @@
 -- `state_bytes` meets its contract: its last eight bytes are those of the set, each at its place. Assumes nothing.
-use borrow.Author.Rules.{rules}
 use Rattle.laws.specs.Below.{tabulate}
 use Rattle.fcwfa_member.proofs.bytes.state_bytes.Goals as goal
 

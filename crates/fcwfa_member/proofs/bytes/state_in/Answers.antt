@@ -1,6 +1,5 @@
 -- `state_in` meets its contract. Assumes nothing.
 use mathlib.Core.Path.{refl}
-use borrow.Author.Rules.{rules}
 use Rattle.fcwfa_member.proofs.bytes.state_in.Goals as goal
 
 pub returns : goal.returns

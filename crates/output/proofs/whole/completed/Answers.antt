@@ -86,7 +86,7 @@ returns c =
     let t : s.t < 2 ^ 64 = search rules in
     let counts = of_64_bits (goal.at.returns c).In-Completed in
     let rounds = c.simulate-answer.new.rounds in
-    let each-round : (i : ℕ) → get_or rounds i 0 < 2 ^ 64 = λ i. let b : get_or rounds i 0 < 256 = search rules in omega arith in
+    let each_round : (i : ℕ) → get_or rounds i 0 < 2 ^ 64 = λ i. let b : get_or rounds i 0 < 256 = search rules in omega arith in
     let w = written_output _ _ _ _ c.blank_output-bytes.ensures.zeros (writes_same (all_shown (goal.at.returns c).After-put_report-end) c.put_report-end.ensures.written)
-    (report_short _ s.t (given_by k _ rounds) (omega arith) t counts.0 counts.1 counts.2 counts.3 each-round) in
+    (report_short _ s.t (given_by k _ rounds) (omega arith) t counts.0 counts.1 counts.2 counts.3 each_round) in
     record { output = w.0 ∙ ap output_is (same_text (goal.at.returns c).After-put_report-end); fits = w.1 }
