@@ -1,17 +1,15 @@
--- What the questions of a schedule come to, by the first whose answer is no, and what acceptance then answers. Assumes nothing.
+-- What the questions of a schedule come to, by the first whose answer is no. Assumes nothing.
 use mathlib.Core.Path.{◌≡◌, sym, ap, ◌∙◌}
 use mathlib.Core.Logic.{◌≢◌}
 use mathlib.Core.Bool.{Bool, true, false, ◌&&◌}
 use Prim.Native.Nat.{ℕ}
 use borrow.Author.Tests.{eq-eqb, ne_eqb}
 use lib.Dec.{leb}
-use Rattle.laws.specs.Answer.{ask, and_then, ask_each, accepted, refused}
-use Rattle.laws.proofs.Answer.{answer_accepted, answer_refused}
+use Rattle.laws.specs.Answer.{ask, and_then, ask_each}
 use Rattle.member.specs.Opening.{size_questions}
 use Rattle.member.proofs.Sizes.{sizes_first}
 use Rattle.schedule.specs.Schedule.{Schedule, crash_count}
 use Rattle.schedule.specs.Questions.{tables_long, process_question, question}
-use Rattle.acceptance.specs.Answers.{accept_answer}
 
 module _ (s : Schedule) (limit : ℕ) (answers : Bool) (q : ℕ) (sizes : q ≡ size_questions limit s.n s.t 0) where
   -- the questions after 1 and 2
@@ -39,12 +37,3 @@ module _ (s : Schedule) (limit : ℕ) (answers : Bool) (q : ℕ) (sizes : q ≡ 
       pub past_processes : p ≡ 0 → question s limit answers ≡ ask (leb (crash_count s) s.t) 7 0
       unfolding ask and_then
       past_processes is-0 = rw (asked, eq-eqb q 0 h, h3, ← processes, eq-eqb p 0 is-0)
-
-module _ (limit : ℕ) (s : Schedule) (q : ℕ) (asked : q ≡ question s limit true) where
-  pub refused_by : q ≢ 0 → refused q tt ≡ accept_answer limit s
-  unfolding accept_answer
-  refused_by h = rw (← asked) (sym (answer_refused q tt tt h))
-
-  pub accepted_by : q ≡ 0 → accepted tt ≡ accept_answer limit s
-  unfolding accept_answer
-  accepted_by h = rw (← asked) (sym (answer_accepted q tt tt h))

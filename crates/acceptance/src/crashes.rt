@@ -18,14 +18,17 @@ pub fn crash_count(t: usize, crashes: &[u8]) -> Counted
     ensures looked_at { result.looked ≡ looked_at t crashes.now }
 {
     let mut count: usize = 0;
-    let mut i: usize = 0;
-    while i < crashes.len() && count <= t {
-        let crash = crashes[i];
+    for (i, &crash) in crashes.iter().enumerate() {
         count += bit(crash != 0) as usize;
-        i += 1;
+        if t < count {
+            return Counted {
+                count,
+                looked: i + 1,
+            };
+        }
     }
     Counted {
-        count: count,
-        looked: i,
+        count,
+        looked: crashes.len(),
     }
 }

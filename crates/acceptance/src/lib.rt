@@ -1,78 +1,77 @@
 // Acceptance of a schedule in tables (document 01, "Questions before work"): questions 1 to 7, which
 // come before any run.
 //
-// `question` gives the number of the first question whose answer is no, or 0, and serves calls that
-// take answer tables too; `accepts` answers for the three input tables alone. `process_question` asks
+// `question` refuses by the first question whose answer is no, and serves calls that take answer tables
+// too; `accepts` answers for the three input tables alone. `process_question` asks
 // about the values of one process, `are_of_size` about the lengths of three tables. `crash_count` counts
 // the crashes in a table of crash rounds, up to the one that is too many. Each takes anything and answers
 // what the definitions of the crate `schedule` give; none has a `requires`.
 #![tactic(auto)]
 
+mod accepted;
 mod crashes;
 mod process;
 mod tables;
 
-ghost use Rattle.std.specs.Prelude.{◌≡◌};
+ghost use Rattle.std.specs.Prelude.{◌≡◌, IfOk};
+ghost use Rattle.laws.specs.Question.{comes_to, answer_is};
 ghost use Rattle.sets.specs.Largest.{largest};
-ghost use Rattle.schedule.specs.Schedule.{schedule_of};
+ghost use Rattle.schedule.specs.Schedule.{schedule_lent};
 ghost use Rattle.schedule.specs.Questions.{answers_of, question as Questions·question};
-ghost use Rattle.acceptance.specs.Answers.{acceptance_is, accept_answer};
+ghost use Rattle.acceptance.specs.Answers.{accept_answer};
 
 use crate::tables::{are_answers_long, processes_question};
+pub use accepted::Accepted;
 pub use crashes::{Counted, crash_count};
+use laws::Question;
 use member::size_question;
 pub use process::process_question;
-use sets::Set;
+use schedule::Tables;
 pub use tables::are_of_size;
 
-// Every question is answered by yes, or the number of the first question whose answer is no.
-#[derive(Clone, Copy)]
-pub enum Acceptance {
-    Accepted,
-    Refused(u8),
-}
-
-// The number of the first question of a schedule in tables whose answer is no, or 0. `decisions` and
-// `rounds` are the lengths of the answer tables that the call takes; one that takes none passes n.
-pub fn question(
-    n: usize,
-    t: usize,
-    votes: &[u8],
-    crashes: &[u8],
-    reaches: &[Set],
-    decisions: usize,
-    rounds: usize,
-) -> u8
-    ensures asked { result ≡ Questions·question (schedule_of n t votes.now crashes.now reaches.now) largest (answers_of n decisions rounds) }
+// The questions of a schedule in tables. `decisions` and `rounds` are the lengths of the answer tables that the call
+// takes; one that takes none passes n.
+pub fn question(tables: &Tables, decisions: usize, rounds: usize) -> Result<(), Question>
+    ensures asked { comes_to result ≡ Questions·question (schedule_lent tables.now) largest (answers_of tables.now.n decisions rounds) }
 {
-    let sizes = size_question(n, t);
-    if sizes != 0 {
-        return sizes;
-    }
-    if !are_of_size(n, votes.len(), crashes.len(), reaches.len()) {
-        return 3;
+    let n = tables.n;
+    let t = tables.t;
+    size_question(n, t)?;
+    if !are_of_size(
+        n,
+        tables.votes.len(),
+        tables.crashes.len(),
+        tables.reaches.len(),
+    ) {
+        return Err(Question::Tables);
     }
     if !are_answers_long(n, decisions, rounds) {
-        return 3;
+        return Err(Question::Tables);
     }
-    let number = processes_question(n, t, votes, crashes, reaches);
-    if number != 0 {
-        return number;
-    }
-    let counted = crash_count(t, crashes);
+    processes_question(tables)?;
+    let counted = crash_count(t, tables.crashes);
     if t < counted.count {
-        return 7;
+        return Err(Question::Crashes);
     }
-    0
+    Ok(())
 }
 
 // Acceptance alone: the call takes no answer tables.
-pub fn accepts(n: usize, t: usize, votes: &[u8], crashes: &[u8], reaches: &[Set]) -> Acceptance
-    ensures answered { acceptance_is result ≡ accept_answer largest (schedule_of n t votes.now crashes.now reaches.now) }
+pub fn accepts(tables: &Tables) -> Result<(), Question>
+    ensures answered { answer_is result ≡ accept_answer largest (schedule_lent tables.now) }
 {
-    let number = question(n, t, votes, crashes, reaches, n, n);
-    if number != 0 {
-        return Acceptance::Refused(number);
-    }
-    Acceptance::Accepted
+    question(tables, tables.n, tables.n)
+}
+
+// The schedule in tables, accepted. The call that runs it takes answer tables of these lengths.
+pub fn accept<'a>(
+    tables: &Tables<'a>,
+    decisions: usize,
+    rounds: usize,
+) -> Result<Accepted<'a>, Question>
+    ensures asked { comes_to result ≡ Questions·question (schedule_lent tables.now) largest (answers_of tables.now.n decisions rounds) }
+    ensures same { IfOk result (λ a. schedule_lent a.tables ≡ schedule_lent tables.now) }
+{
+    question(tables, decisions, rounds)?;
+    Ok(Accepted { tables: *tables })
 }

@@ -1,8 +1,10 @@
 // The questions about one process, 4 to 6, on the values that stand at its place i. None has a
 // `requires`: n, t and i may be anything.
 ghost use Rattle.std.specs.Prelude.{◌≡◌, ◌+◌, leb};
+ghost use Rattle.laws.specs.Question.{comes_to};
 ghost use Rattle.schedule.specs.Questions.{reach_right, entry_question};
 
+use laws::Question;
 use sets::{Set, is_of_others};
 
 // Whether a reach names only processes 1 to n, never its own process, and nobody where the crash
@@ -32,18 +34,25 @@ fn is_round(crash: usize, t: usize) -> bool
     true
 }
 
-// The number of the first question of a process whose answer is no, or 0.
-pub fn process_question(n: usize, t: usize, i: usize, vote: u8, crash: u8, reach: Set) -> u8
-    ensures asked { result ≡ entry_question n t i vote crash reach }
+// The questions of the process at place i.
+pub fn process_question(
+    n: usize,
+    t: usize,
+    i: usize,
+    vote: u8,
+    crash: u8,
+    reach: Set,
+) -> Result<(), Question>
+    ensures asked { comes_to result ≡ entry_question n t i vote crash reach }
 {
     if 1 < vote {
-        return 4;
+        return Err(Question::Vote);
     }
     if !is_round(crash as usize, t) {
-        return 5;
+        return Err(Question::CrashRound);
     }
     if !is_reach_right(n, i, crash, reach) {
-        return 6;
+        return Err(Question::Reach);
     }
-    0
+    Ok(())
 }

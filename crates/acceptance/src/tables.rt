@@ -1,11 +1,13 @@
 // The tables of a schedule: their lengths, and the questions of the processes in order.
 ghost use Rattle.std.specs.Prelude.{◌≡◌, length};
-ghost use Rattle.laws.specs.Answer.{and_then, ask_each};
-ghost use Rattle.schedule.specs.Schedule.{schedule_of};
+ghost use Rattle.laws.specs.Answer.{ask_each};
+ghost use Rattle.laws.specs.Question.{comes_to};
+ghost use Rattle.schedule.specs.Schedule.{schedule_lent};
 ghost use Rattle.schedule.specs.Questions.{tables_of, answers_of, process_question};
 
 use crate::process::process_question;
-use sets::Set;
+use laws::Question;
+use schedule::Tables;
 
 // Whether three tables, whose lengths are given, have so many entries each.
 pub fn are_of_size(size: usize, votes: usize, crashes: usize, reaches: usize) -> bool
@@ -30,24 +32,14 @@ pub fn are_answers_long(n: usize, decisions: usize, rounds: usize) -> bool
     rounds == n
 }
 
-// The number found so far, or where that is 0, the next one.
-fn first_no(found: u8, next: u8) -> u8
-    ensures asked { result ≡ and_then found next }
+// The questions of the processes in order.
+pub fn processes_question(tables: &Tables) -> Result<(), Question>
+    requires long { let s = schedule_lent tables.now in (length s.votes ≡ s.n) × (length s.crashes ≡ s.n) × (length s.reaches ≡ s.n) }
+    ensures asked { comes_to result ≡ ask_each tables.now.n (process_question (schedule_lent tables.now)) }
 {
-    if found == 0 { next } else { found }
-}
-
-// The number of the first question of the processes in order whose answer is no, or 0.
-pub fn processes_question(n: usize, t: usize, votes: &[u8], crashes: &[u8], reaches: &[Set]) -> u8
-    requires long { (length votes.now ≡ n) × (length crashes.now ≡ n) × (length reaches.now ≡ n) }
-    ensures asked { result ≡ ask_each n (process_question (schedule_of n t votes.now crashes.now reaches.now)) }
-{
-    let mut number: u8 = 0;
-    let mut i: usize = 0;
-    while i < n {
-        let next = process_question(n, t, i, votes[i], crashes[i], reaches[i]);
-        number = first_no(number, next);
-        i += 1;
+    for i in 0..tables.n {
+        let (vote, crash) = (tables.votes[i], tables.crashes[i]);
+        process_question(tables.n, tables.t, i, vote, crash, tables.reaches[i])?;
     }
-    number
+    Ok(())
 }

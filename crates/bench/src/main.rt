@@ -4,6 +4,9 @@
 // The array has one byte more than a text may have, 8,193, so that a text that is too long is noticed:
 // as many bytes of it are refused as all of it is.
 //
+// The three programs differ in what is wanted and in their names. What they share is in `input` and `output`; one function for the
+// rest would be open to callers, and a contract of its own would say of devices what no other clause does.
+//
 // Where the output could not be written, it says so in one line on standard error. Its exit status is 0 all the same.
 #![tactic(auto)]
 

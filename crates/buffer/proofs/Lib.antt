@@ -1,2 +1,3 @@
 pub mod Written
 pub mod Digits
+pub mod Puts

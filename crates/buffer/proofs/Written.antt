@@ -42,10 +42,7 @@ module _ (buffer : List ℕ) (at : ℕ) (part : List ℕ) where
     unfolding written
     gets e = get_d_tabulate (length buffer) _ k 0 l ∙ rw e
 
--- a byte of two parts, one after the other
-first_part : (p q : List ℕ) (j : ℕ) → j < length p → get_or (p ++ q) j 0 ≡ get_or p j 0
-first_part p q j l = get_or-append p q 0 j l
-
+-- a byte of the second of two parts, one after the other
 second_part : (p q : List ℕ) (j : ℕ) → length p ≤ j → get_or (p ++ q) j 0 ≡ get_or q (j - length p) 0
 second_part p q j l =
     let e : j ≡ length p + (j - length p) = omega arith in
@@ -53,14 +50,11 @@ second_part p q j l =
 
 -- Two parts, one after the other, are one.
 module _ (buffer : List ℕ) (at : ℕ) (p q : List ℕ) where
-  both_long : length (p ++ q) ≡ length p + length q
-  both_long = length-append p q
-
   joined_at : (k : ℕ) → k < length buffer → get_or (written (written buffer at p) (next_place buffer at p) q) k 0 ≡ get_or (written buffer at (p ++ q)) k 0
   unfolding next_place
   joined_at k l =
       let long = written_long buffer at p in
-      let both = both_long in
+      let both = length-append p q in
       let inside : k < length (written buffer at p) = omega arith in
       elim (split at k) [
         | inl low ↦
@@ -83,7 +77,7 @@ module _ (buffer : List ℕ) (at : ℕ) (p q : List ℕ) where
               | inr end ↦
                   stays (written buffer at p) _ q k inside (before_part _ q k (omega arith))
                   ∙ gets buffer at p k l (in_part at p k low end)
-                  ∙ sym (first_part p q (k - at) end)
+                  ∙ sym (get_or-append p q 0 (k - at) end)
                   ∙ sym (gets buffer at (p ++ q) k l (in_part at (p ++ q) k low (omega arith)))
             ]
         | inr low ↦
@@ -101,7 +95,7 @@ module _ (buffer : List ℕ) (at : ℕ) (p q : List ℕ) where
 
   joined_place : next_place (written buffer at p) (next_place buffer at p) q ≡ next_place buffer at (p ++ q)
   unfolding next_place
-  joined_place = let long = written_long buffer at p in let both = both_long in omega arith
+  joined_place = let long = written_long buffer at p in let both = length-append p q in omega arith
 
 -- Calls one after the other write their parts one after the other.
 nothing_written : (buffer : List ℕ) (at : ℕ) → buffer ≡ written buffer at []
@@ -187,7 +181,7 @@ written_front buffer part fits =
             let e : k - 0 ≡ k = omega arith in
             gets buffer 0 part k (omega arith) (in_part 0 part k (omega arith) (omega arith))
             ∙ ap (λ (j : ℕ). get_or part j 0) e
-            ∙ sym (first_part part (drop (length part) buffer) k inside)
+            ∙ sym (get_or-append part (drop (length part) buffer) 0 k inside)
       ]);
       place = front_place buffer part fits;
     }

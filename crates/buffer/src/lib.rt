@@ -1,47 +1,51 @@
 // Writing bytes into a lent buffer, one part after the other.
 //
-// Each `put` function takes the place of the next byte and answers the place after what it wrote. What
-// stood behind it stays, and what does not fit is left out. Each takes any buffer and any place, writes
-// what the definitions in specs/Buffer.antt give, and has no `requires`. `digit_count` tells before how
-// many digits `put_field` writes of a number.
+// A `Writer` has the buffer and the place of the next byte. Each `put` method writes from there on, and moves the place
+// to the one after what it wrote. What stood behind it stays, and what does not fit is left out. Each takes any buffer
+// and any place, writes what the definitions in specs/ give, and has no `requires`. `digit_count` tells before how many
+// digits `put_field` writes of a number.
 #![tactic(auto)]
 
 ghost use Rattle.std.specs.Prelude.{◌≡◌, ◌∷◌, []};
 ghost use Rattle.fields.specs.Decimal.{digit_count, field};
-ghost use Rattle.buffer.specs.Buffer.{Writes};
+ghost use Rattle.buffer.specs.Puts.{Puts};
 
-// Writes one byte.
-pub fn put_byte(buffer: &mut [u8], at: usize, byte: u8) -> usize
-    ensures written { Writes buffer.old at buffer.new result (byte ∷ []) }
-{
-    if at < buffer.len() {
-        buffer[at] = byte;
-        return at + 1;
-    }
-    at
+// Where the next byte of a lent buffer goes.
+#[derive(Drop)]
+pub struct Writer<'a> {
+    pub buffer: &'a mut [u8],
+    pub at: usize,
 }
 
-// Writes all bytes of a part.
-pub fn put(buffer: &mut [u8], at: usize, part: &[u8]) -> usize
-    ensures written { Writes buffer.old at buffer.new result part.now }
-{
-    let mut next = at;
-    let mut i: usize = 0;
-    while i < part.len() {
-        next = put_byte(buffer, next, part[i]);
-        i += 1;
+impl Writer<'_> {
+    // Writes one byte.
+    pub fn put_byte(&mut self, byte: u8)
+        ensures written { Puts self.old self.new (byte ∷ []) }
+    {
+        if self.at < self.buffer.len() {
+            self.buffer[self.at] = byte;
+            self.at += 1;
+        }
     }
-    next
-}
 
-// Writes a number in decimal digits, and the byte that ends its field.
-pub fn put_field(buffer: &mut [u8], at: usize, number: usize, end: u8) -> usize
-    ensures written { Writes buffer.old at buffer.new result (field number end) }
-{
-    let mut digits = [0u8; 20];
-    let k = io::decimal(number as u64, &mut digits);
-    let next = put(buffer, at, &digits[..k]);
-    put_byte(buffer, next, end)
+    // Writes all bytes of a part.
+    pub fn put(&mut self, part: &[u8])
+        ensures written { Puts self.old self.new part.now }
+    {
+        for &byte in part {
+            self.put_byte(byte);
+        }
+    }
+
+    // Writes a number in decimal digits, and the byte that ends its field.
+    pub fn put_field(&mut self, number: usize, end: u8)
+        ensures written { Puts self.old self.new (field number end) }
+    {
+        let mut digits = [0u8; 20];
+        let k = io::decimal(number as u64, &mut digits);
+        self.put(&digits[..k]);
+        self.put_byte(end);
+    }
 }
 
 // How many decimal digits a number has.

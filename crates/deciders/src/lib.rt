@@ -5,12 +5,12 @@
 // crash rounds never crashes.
 #![tactic(auto)]
 
-ghost use Rattle.std.specs.Prelude.{◌≡◌, ◌<◌, max, length, get_or};
+ghost use Rattle.std.specs.Prelude.{◌≡◌, ◌<◌, length, get_or};
 ghost use Rattle.laws.specs.Below.{bit};
 ghost use Rattle.schedule.specs.Schedule.{ever_crashes};
 ghost use Rattle.run.specs.Report.{ahead, before, first_with, first_of, last_of};
 
-use sets::byte_at;
+use sets::entry_at;
 
 // One step of the order of two processes, by the values x and y that they have in it: the smaller goes
 // ahead, and where they are equal the next step tells.
@@ -24,7 +24,7 @@ fn is_ahead(x: u8, y: u8, next: bool) -> bool
 fn ever_crashes(crashes: &[u8], i: usize) -> u8
     ensures told { result ≡ bit (ever_crashes (get_or crashes.now i 0)) }
 {
-    let crash = byte_at(crashes, i);
+    let crash = entry_at(crashes, i);
     if crash == 0 { 0 } else { 1 }
 }
 
@@ -36,8 +36,8 @@ fn goes_before(crashes: &[u8], rounds: &[u8], i: usize, k: usize) -> bool
 {
     let own_fate = ever_crashes(crashes, i);
     let other_fate = ever_crashes(crashes, k);
-    let own_round = byte_at(rounds, i);
-    let other_round = byte_at(rounds, k);
+    let own_round = entry_at(rounds, i);
+    let other_round = entry_at(rounds, k);
     let among_equals = is_ahead(own_fate, other_fate, i < k);
     is_ahead(own_round, other_round, among_equals)
 }
@@ -67,30 +67,15 @@ pub fn first_decider(crashes: &[u8], rounds: &[u8]) -> usize
     ensures found { result ≡ first_of (λ i. get_or crashes.now i 0) (λ i. get_or rounds.now i 0) (length rounds.now) }
 {
     let mut first: usize = 0;
-    let mut i: usize = 0;
-    while i < rounds.len() {
+    for i in 0..rounds.len() {
         first = first_with(crashes, rounds, i, first);
-        i += 1;
     }
     first
-}
-
-// The later of two rounds.
-fn later(a: u8, b: u8) -> u8
-    ensures found { result ≡ max a b }
-{
-    if a < b { b } else { a }
 }
 
 // The largest decided round, 0 if nobody decided.
 pub fn last_round(rounds: &[u8]) -> u8
     ensures found { result ≡ last_of (λ i. get_or rounds.now i 0) (length rounds.now) }
 {
-    let mut last: u8 = 0;
-    let mut i: usize = 0;
-    while i < rounds.len() {
-        last = later(last, rounds[i]);
-        i += 1;
-    }
-    last
+    rounds.iter().copied().max().unwrap_or(0)
 }

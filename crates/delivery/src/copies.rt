@@ -9,7 +9,7 @@ ghost use Rattle.member.specs.Saying.{nothing};
 ghost use Rattle.run.specs.Report.{sent_by};
 
 use laws::bit;
-use sets::{Set, WIDTH, ones, set_at};
+use sets::{Set, WIDTH, entry_at, ones};
 
 // How many other processes a cluster of n has: so many copies go out on the wire for a sender that completes
 // the round. There is nobody where n is 0.
@@ -24,10 +24,8 @@ pub fn speakers(row: [u8; WIDTH]) -> usize
     ensures counted { result ≡ count largest (λ j. not (eqb (get_or row j 0) nothing)) }
 {
     let mut speaking: u8 = 0;
-    let mut j: usize = 0;
-    while j < WIDTH {
-        speaking += bit(row[j] != 0);
-        j += 1;
+    for &code in &row {
+        speaking += bit(code != 0);
     }
     speaking as usize
 }
@@ -44,6 +42,6 @@ pub fn crashing_copies(round: u8, code: u8, crash: u8, reaches: &[Set], j: usize
     if crash != round {
         return 0;
     }
-    let reach = set_at(reaches, j);
+    let reach = entry_at(reaches, j);
     if code == 0 { 0 } else { ones(reach) }
 }

@@ -18,7 +18,7 @@ ghost use Rattle.delivery.specs.Delivery.{Delivers};
 
 use crate::copies::{crashing_copies, others, speakers};
 use crate::rows::{completing_row, enter_crashing, store_row};
-use sets::{Set, WIDTH, byte_at, fitting};
+use sets::{Set, WIDTH, entry_at, fitting};
 
 // Whether a process with this crash round completes the round.
 pub fn completes(round: u8, crash: u8) -> bool
@@ -47,11 +47,9 @@ pub fn deliver(
     }
     let row = completing_row(size, round, codes, crashes);
     store_row(size, row, grid);
-    let mut j: usize = 0;
-    while j < size {
-        let crash = byte_at(crashes, j);
+    for j in 0..size {
+        let crash = entry_at(crashes, j);
         enter_crashing(size, round, j, codes[j], crash, reaches, grid);
-        j += 1;
     }
 }
 
@@ -71,11 +69,9 @@ pub fn message_count(
     let size = fitting(n);
     let row = completing_row(size, round, codes, crashes);
     let mut messages = others(size) * speakers(row);
-    let mut j: usize = 0;
-    while j < size {
-        let crash = byte_at(crashes, j);
+    for j in 0..size {
+        let crash = entry_at(crashes, j);
         messages += crashing_copies(round, codes[j], crash, reaches, j);
-        j += 1;
     }
     messages
 }

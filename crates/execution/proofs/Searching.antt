@@ -8,15 +8,16 @@ use Prim.Native.Nat.{ℕ, zero, suc, ◌+◌, ◌≤◌, ◌<◌}
 use native.Mathlib.Omega.{arith}
 use borrow.Author.Tests.{le-ltb, lt-ltb}
 use Rattle.laws.proofs.Counting.{split}
-use Rattle.laws.proofs.Answer.{place_given, place_kept}
+use Rattle.laws.specs.Answer.{accepted}
+use Rattle.laws.proofs.Refusals.{is_accepted}
 use Rattle.member.specs.declared.Member.{Member}
 use Rattle.sets.specs.Largest.{largest}
 use Rattle.schedule.specs.Schedule.{Schedule}
 use Rattle.schedule.specs.Questions.{question, Rules}
-use Rattle.run.specs.Protocol.{Protocol, fcwfa, nobody, by_calls}
+use Rattle.run.specs.Protocol.{Protocol, fcwfa, by_calls}
 use Rattle.run.specs.Run.{state_at, states_after}
 use Rattle.run.specs.Facts.{OwnAnswers}
-use Rattle.run.specs.Outcome.{lowest_decided, some_decided, outcome_round, outcome_member}
+use Rattle.run.specs.Outcome.{lowest_decided, some_decided, outcome_round}
 use Rattle.run.proofs.Outcome.{lowest_high, lowest_same, round_is, none_opened, decided_at_end}
 use Rattle.execution.specs.declared.FirstDecision.{FirstDecision}
 use Rattle.execution.specs.Decision.{FirstDecides, first_decision_of}
@@ -92,22 +93,7 @@ module _ (s : Schedule) (ok : Rules s) where
             ∙ ap (λ (q : ℕ). state_at (states_after fcwfa s q) (lowest_decided s.n (states_after fcwfa s q))) last_round;
       }
 
--- The whole call.
-module _ (P : Protocol) (s : Schedule) {q : ℕ} (asked : q ≡ question s largest true) where
-  pub refused_decision : {m : Member} → (q ≡ 0 → ⊥) → m ≡ nobody → ◌≡◌ {A = FirstDecision} (record { question = q; round = 0; member = m }) (first_decision_of P largest s)
-  refused_decision other e =
-      let refusing : question s largest true ≡ 0 → ⊥ = λ z. other (asked ∙ z) in
-      λ i. record {
-        question = asked i;
-        round = sym (place_kept (question s largest true) (outcome_round P s) 0 refusing) i;
-        member = (e ∙ sym (place_kept (question s largest true) (outcome_member P s) nobody refusing)) i;
-      }
-
-  pub first_decision : (left : FirstDecision) → q ≡ 0 → FirstDecides P s left.round left.member → left.question ≡ 0 → left ≡ first_decision_of P largest s
-  first_decision left yes? d none =
-      let passed : question s largest true ≡ 0 = sym asked ∙ yes? in
-      λ i. record {
-        question = (none ∙ sym passed) i;
-        round = (d.in_round ∙ sym (place_given (question s largest true) (outcome_round P s) 0 passed)) i;
-        member = (d.member_is ∙ sym (place_given (question s largest true) (outcome_member P s) nobody passed)) i;
-      }
+-- The whole call, of an accepted schedule.
+pub first_decision : (P : Protocol) (s : Schedule) → 0 ≡ question s largest true → (left : FirstDecision) → FirstDecides P s left.round left.member
+    → accepted left ≡ first_decision_of P largest s
+first_decision P s passed left d = ap accepted (λ i. record { round = d.in_round i; member = d.member_is i }) ∙ is_accepted _ _ tt passed

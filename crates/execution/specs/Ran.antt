@@ -1,7 +1,7 @@
--- What the rounds of a schedule leave, for any schedule, accepted or refused.
+-- What the rounds of a schedule leave, and the answer for any schedule, accepted or refused.
 use Rattle.std.specs.Prelude.{ℕ, ◌≡◌, List, Bool}
 use Rattle.laws.specs.Below.{sum, tabulate}
-use Rattle.laws.specs.Answer.{place_after}
+use Rattle.laws.specs.Answer.{Answer, answer}
 use Rattle.sets.specs.Largest.{largest}
 use Rattle.member.specs.declared.Member.{Member}
 use Rattle.schedule.specs.Schedule.{Schedule}
@@ -10,7 +10,6 @@ use Rattle.run.specs.Protocol.{Protocol}
 use Rattle.run.specs.Run.{state_at, states_after}
 use Rattle.run.specs.Report.{sent_after}
 use Rattle.execution.specs.declared.Ran.{Ran}
-use Rattle.execution.specs.Rounds.{no_members}
 
 module _ (P : Protocol) where
   -- the states after r rounds, with nobody at the places from n on, and the messages of these rounds
@@ -25,11 +24,7 @@ module _ (P : Protocol) where
     pub states : members ≡ members_after s r
     pub counted : messages ≡ messages_after s r
 
-  -- The number of the first question whose answer is no, or 0; the states after r rounds, and the messages of these rounds. A refused schedule leaves
-  -- nobody and no message. `limit` is the largest n that is accepted.
-  abbrev pub ran_of : ℕ → Schedule → Bool → ℕ → Ran
-  ran_of limit s answers r = record {
-    question = question s limit answers;
-    members = place_after (question s limit answers) (members_after s r) no_members;
-    messages = place_after (question s limit answers) (messages_after s r) 0;
-  }
+  -- The states after r rounds of a schedule, and the messages of these rounds; or the number of the first question whose answer is no. `limit` is the
+  -- largest n that is accepted.
+  abbrev pub ran_of : ℕ → Schedule → Bool → ℕ → Answer Ran (Unit {0})
+  ran_of limit s answers r = answer (question s limit answers) (record { members = members_after s r; messages = messages_after s r }) tt

@@ -4,31 +4,16 @@
 ghost use Rattle.std.specs.Prelude.{true, ◌≡◌};
 ghost use Rattle.sets.specs.Largest.{largest};
 ghost use Rattle.member.specs.State.{in_range};
-ghost use Rattle.run.specs.Protocol.{nobody};
 ghost use Rattle.execution.specs.Calls.{calls};
 
-use member::{Heard, Member, Opened};
+use member::Member;
+use sets::Blank;
 
 // A member between two rounds: its state, and the code that it says in the round to come.
 #[derive(Clone, Copy)]
 pub struct Turn {
     pub state: Member,
     pub code: u8,
-}
-
-// What stands at the places that hold no member.
-pub fn no_member() -> Member
-    ensures none { result ≡ nobody }
-{
-    Member {
-        n: 0,
-        t: 0,
-        id: 0,
-        round: 0,
-        estimate: 0,
-        decided: 0,
-        silent: 0,
-    }
 }
 
 // Whether a member has stopped.
@@ -55,11 +40,10 @@ pub fn opened(n: usize, t: usize, id: usize, vote: u8) -> Turn
     ensures state { result.state ≡ calls.opening n t id vote }
     ensures said { result.code ≡ calls.says result.state }
 {
-    let answer = member::open(n, t, id, vote);
-    match answer {
-        Opened::Started(m) => in_turn(m),
-        Opened::Refused(_) => Turn {
-            state: no_member(),
+    match member::open(n, t, id, vote) {
+        Ok(m) => in_turn(m),
+        Err(_) => Turn {
+            state: Member::blank(),
             code: 0,
         },
     }
@@ -71,12 +55,8 @@ pub fn heard(m: Member, code: u8, row: &[u8]) -> Turn
     ensures state { result.state ≡ calls.hears m row.now }
     ensures said { result.code ≡ calls.says result.state }
 {
-    let answer = hearing::hear(m, row);
-    match answer {
-        Heard::Moved(next) => in_turn(next),
-        Heard::Refused(_, _) => Turn {
-            state: m,
-            code: code,
-        },
+    match hearing::hear(m, row) {
+        Ok(next) => in_turn(next),
+        Err(_) => Turn { state: m, code },
     }
 }

@@ -2,21 +2,14 @@
 ghost use Rattle.std.specs.Prelude.{◌≡◌, replicate};
 ghost use Rattle.sets.specs.Largest.{largest};
 
-use sets::{WIDTH, zero_bytes};
+use sets::{WIDTH, blank_table};
 
 // The rows of the smaller grid.
 pub const FEW: usize = 16;
 
-// The grid before the first round of a run.
-pub fn all_rows() -> [[u8; WIDTH]; WIDTH]
-    ensures blank { result ≡ replicate largest (replicate largest 0) }
+// The grid before the first round of a run, with so many rows.
+pub fn blank_rows<const N: usize>() -> [[u8; WIDTH]; N]
+    ensures blank { result ≡ replicate N (replicate largest 0) }
 {
-    let row = zero_bytes();
-    [row; WIDTH]
-}
-
-// The same with fewer rows.
-pub fn few_rows() -> [[u8; WIDTH]; FEW] {
-    let row = zero_bytes();
-    [row; FEW]
+    [blank_table(); N]
 }

@@ -6,19 +6,12 @@ ghost use Rattle.laws.specs.Filled.{Overwritten};
 ghost use Rattle.sets.specs.Largest.{fitting as Largest·fitting};
 ghost use Rattle.run.specs.Run.{code_said, state_after};
 ghost use Rattle.execution.specs.Calls.{calls};
-ghost use Rattle.execution.specs.Rounds.{no_members, Opens, PlaysRound};
+ghost use Rattle.execution.specs.Rounds.{Opens, PlaysRound};
 
-use crate::calls::{Turn, heard, is_stopped, no_member, opened};
+use crate::calls::{Turn, heard, is_stopped, opened};
 use delivery::{completes, deliver};
 use member::Member;
-use sets::{Set, WIDTH, byte_at, fitting};
-
-pub fn no_members() -> [Member; WIDTH]
-    ensures none { result ≡ no_members }
-{
-    let m = no_member();
-    [m; WIDTH]
-}
+use sets::{Set, WIDTH, blank_table, entry_at, fitting};
 
 // The members of all processes, opened, and nobody at the places after them. `codes` gets what they say.
 pub fn open_all(n: usize, t: usize, votes: &[u8], codes: &mut [u8]) -> [Member; WIDTH]
@@ -27,14 +20,12 @@ pub fn open_all(n: usize, t: usize, votes: &[u8], codes: &mut [u8]) -> [Member; 
     ensures said { Overwritten (Largest·fitting n) (code_said calls result) codes.old codes.new }
 {
     let size = fitting(n);
-    let mut members = no_members();
-    let mut i: usize = 0;
-    while i < size {
-        let first = opened(size, t, i + 1, byte_at(votes, i));
+    let mut members: [Member; WIDTH] = blank_table();
+    for i in 0..size {
+        let first = opened(size, t, i + 1, entry_at(votes, i));
         let state = first.state;
         members[i] = state;
         codes[i] = first.code;
-        i += 1;
     }
     members
 }
@@ -46,16 +37,10 @@ fn next_turn(round: u8, crash: u8, m: Member, code: u8, row: &[u8]) -> Turn
     ensures said { result.code ≡ calls.says result.state }
 {
     if !completes(round, crash) {
-        return Turn {
-            state: m,
-            code: code,
-        };
+        return Turn { state: m, code };
     }
     if is_stopped(m) {
-        return Turn {
-            state: m,
-            code: code,
-        };
+        return Turn { state: m, code };
     }
     heard(m, code, row)
 }
@@ -79,16 +64,14 @@ pub fn play_round(
 {
     let size = fitting(n);
     deliver(n, round, codes, crashes, reaches, &mut grid[..]);
-    let mut i: usize = 0;
-    while i < size {
+    for i in 0..size {
         let m = members[i];
         let row = &grid[i][..];
         let code = codes[i];
-        let turn = next_turn(round, byte_at(crashes, i), m, code, &row[..size]);
+        let turn = next_turn(round, entry_at(crashes, i), m, code, &row[..size]);
         let state = turn.state;
         members[i] = state;
         codes[i] = turn.code;
-        i += 1;
     }
     members
 }

@@ -45,10 +45,10 @@ module _ (s : Schedule) (passed : question s largest true ≡ 0) (i : ℕ) (il :
   hears_then = own_hearing s accepts.rules i il r own
 
   -- the rounds before it are rounds of the run, and leave its states
-  pub left_before : (before : ℕ) {ran : Ran} → before ≡ r → ran ≡ ran_of fcwfa largest s true (min before (s.t + 1)) → ran.members ≡ members_after fcwfa s r
+  pub left_before : (before : ℕ) {ran : Ran} → before ≡ r → accepted ran ≡ ran_of fcwfa largest s true (min before (s.t + 1)) → ran.members ≡ members_after fcwfa s r
   left_before before e left =
       let time = hears_then.time in
-      left_members fcwfa s true passed (min before (s.t + 1)) left ∙ ap (members_after fcwfa s) {x = min before (s.t + 1)} {y = r} (omega arith)
+      left_members fcwfa s true (min before (s.t + 1)) left ∙ ap (members_after fcwfa s) {x = min before (s.t + 1)} {y = r} (omega arith)
 
   module _ {members : List Member} (left : members ≡ members_after fcwfa s r) where
     pub member_at : (j : ℕ) → j < s.n → state_at members j ≡ after fcwfa s r j

@@ -1,11 +1,11 @@
 -- What `explain` answers.
-use Rattle.std.specs.Prelude.{ℕ, ◌-◌, ◌≡◌, true}
+use Rattle.std.specs.Prelude.{ℕ, ◌-◌, ◌≡◌, Result, true}
 use Rattle.laws.specs.Test.{within}
 use Rattle.laws.specs.Answer.{ask, and_then, Answer, accepted, answer}
+use Rattle.laws.specs.declared.question.Question.{Question}
+use Rattle.laws.specs.Question.{answer_is}
 use Rattle.sets.specs.Largest.{largest}
 use Rattle.member.specs.declared.Reason.{Reason}
-use Rattle.member.specs.declared.Explained.{Explained}
-use Rattle.member.specs.Answers.{explained_is}
 use Rattle.schedule.specs.Schedule.{Schedule}
 use Rattle.schedule.specs.Questions.{question}
 use Rattle.run.specs.Why.{why_of, WhyPromises}
@@ -21,10 +21,10 @@ module _ (limit : ℕ) (s : Schedule) (id : ℕ) where
   why_answer = answer why_question (why_of s (id - 1)) tt
 
 -- What is promised of a reason, of the answer: wherever it is one.
-pub record AnswerIsReason (s : Schedule) (id : ℕ) (r : Explained) : Type 0 where
-  pub kept : (why : Reason) → explained_is r ≡ accepted why → WhyPromises s (id - 1) why
+pub record AnswerIsReason (s : Schedule) (id : ℕ) (r : Result Reason Question) : Type 0 where
+  pub kept : (why : Reason) → answer_is r ≡ accepted why → WhyPromises s (id - 1) why
 
 -- What the call promises of its answer.
-pub record Explains (s : Schedule) (id : ℕ) (r : Explained) : Type 0 where
-  pub answered : explained_is r ≡ why_answer largest s id
+pub record Explains (s : Schedule) (id : ℕ) (r : Result Reason Question) : Type 0 where
+  pub answered : answer_is r ≡ why_answer largest s id
   pub promises : AnswerIsReason s id r

@@ -7,44 +7,35 @@
 
 mod own;
 
-ghost use Rattle.schedule.specs.Schedule.{schedule_of};
+ghost use Rattle.schedule.specs.Schedule.{schedule_lent};
 ghost use Rattle.explanation.specs.Answers.{Explains};
 
 use crate::own::by_own_row;
 use execution::play_rounds;
-use laws::is_within;
-use member::{Explained, Reason, Rule};
-use sets::{Set, WIDTH};
+use laws::{Question, is_within};
+use member::{Reason, Rule};
+use schedule::Tables;
+use sets::WIDTH;
 
 // Why the process with this number decided in the run of the schedule of these tables: the rule and the number
 // that goes with it; for a process without a decision no rule, and its crash round.
-pub fn explain(
-    n: usize,
-    t: usize,
-    votes: &[u8],
-    crashes: &[u8],
-    reaches: &[Set],
-    id: usize,
-) -> Explained
-    ensures explained { Explains (schedule_of n t votes.now crashes.now reaches.now) id result }
+pub fn explain(tables: &Tables, id: usize) -> Result<Reason, Question>
+    ensures explained { Explains (schedule_lent tables.now) id result }
 {
-    let ran = play_rounds(n, t, votes, crashes, reaches, n, n, WIDTH);
-    let question = ran.question;
-    if question != 0 {
-        return Explained::Refused(question);
-    }
+    let n = tables.n;
+    let ran = play_rounds(tables, n, n, WIDTH)?;
     if !is_within(1, id, n) {
-        return Explained::Refused(10);
+        return Err(Question::OwnNumber);
     }
     let place = id - 1;
     let members = ran.members;
     let m = members[place];
     let round = m.decided;
     if round == 0 {
-        return Explained::Because(Reason {
+        return Ok(Reason {
             rule: Rule::NoRule,
-            number: crashes[place],
+            number: tables.crashes[place],
         });
     }
-    by_own_row(n, t, votes, crashes, reaches, place, round)
+    by_own_row(tables, place, round)
 }

@@ -19,21 +19,18 @@ ghost use Rattle.member.specs.Hearing.{hears};
 ghost use Rattle.member.specs.Questions.{say_question, hear_question};
 ghost use Rattle.fcwfa_member.specs.Bytes.{state_bytes, state_in};
 
-use member::{Heard, Opened, Said};
-
 // `state` becomes that of a new member.
 #[unsafe(no_mangle)]
 pub extern "C" fn fcwfa_open(n: usize, t: usize, id: usize, vote: u8, state: &mut [u8; 14]) -> u8
     ensures number { result ≡ open_question largest n t id vote }
     ensures state_after { state.new ≡ place_after (open_question largest n t id vote) (state_bytes (opening n t id vote)) state.old }
 {
-    let answer = member::open(n, t, id, vote);
-    match answer {
-        Opened::Started(m) => {
+    match member::open(n, t, id, vote) {
+        Ok(m) => {
             *state = bytes::state_bytes(m);
             0
         }
-        Opened::Refused(number) => number,
+        Err(question) => question.into(),
     }
 }
 
@@ -43,13 +40,12 @@ pub extern "C" fn fcwfa_say(state: &[u8; 14], code: &mut u8) -> u8
     ensures number { result ≡ say_question largest (state_in state.now) }
     ensures code_after { code.new ≡ place_after (say_question largest (state_in state.now)) (says (state_in state.now)) code.old }
 {
-    let answer = member::say(bytes::state_in(*state));
-    match answer {
-        Said::Code(said) => {
+    match member::say(bytes::state_in(*state)) {
+        Ok(said) => {
             *code = said;
             0
         }
-        Said::Refused(number) => number,
+        Err(question) => question.into(),
     }
 }
 
@@ -59,12 +55,11 @@ pub extern "C" fn fcwfa_hear(state: &mut [u8; 14], row: &[u8]) -> u8
     ensures number { result ≡ hear_question largest (state_in state.old) row.now }
     ensures state_after { state.new ≡ place_after (hear_question largest (state_in state.old) row.now) (state_bytes (hears (state_in state.old) row.now)) state.old }
 {
-    let answer = hearing::hear(bytes::state_in(*state), row);
-    match answer {
-        Heard::Moved(m) => {
+    match hearing::hear(bytes::state_in(*state), row) {
+        Ok(m) => {
             *state = bytes::state_bytes(m);
             0
         }
-        Heard::Refused(number, _) => number,
+        Err(refused) => refused.question.into(),
     }
 }

@@ -12,11 +12,11 @@
 ghost use Rattle.schedule.specs.Schedule.{schedule_of};
 ghost use Rattle.fcwfa_outcome.specs.Numbers.{ConcludesNumbers};
 
+use schedule::Tables;
 use sets::Set;
-use simulator::Concluded;
 
 // Plays rounds of the schedule of these tables until one in which some process decides: `outcome` gets the
-// value that it decides, 0 or 1, and the round.
+// value that it decides, 0 or 1, and the round. The interface for C fixes the parameters.
 #[unsafe(no_mangle)]
 pub extern "C" fn fcwfa_outcome(
     n: usize,
@@ -28,12 +28,18 @@ pub extern "C" fn fcwfa_outcome(
 ) -> u8
     ensures concluded { ConcludesNumbers (schedule_of n t votes.now crashes.now reaches.now) outcome.old result outcome.new }
 {
-    let answer = simulator::conclude(n, t, votes, crashes, reaches);
-    match answer {
-        Concluded::Decided(found) => {
+    let tables = Tables {
+        n,
+        t,
+        votes,
+        crashes,
+        reaches,
+    };
+    match simulator::conclude(&tables) {
+        Ok(found) => {
             *outcome = [found.decision, found.round];
             0
         }
-        Concluded::Refused(number) => number,
+        Err(question) => question.into(),
     }
 }

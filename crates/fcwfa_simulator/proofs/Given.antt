@@ -2,16 +2,18 @@
 use mathlib.Core.Path.{◌≡◌, sym, subst}
 use Prim.Native.Nat.{ℕ}
 use mathlib.Core.List.{List}
+use Rattle.std.specs.Prelude.{Result}
 use Rattle.laws.specs.Answer.{accepted}
+use Rattle.laws.specs.declared.question.Question.{Question}
+use Rattle.laws.specs.Question.{answer_is}
 use Rattle.schedule.specs.Schedule.{Schedule}
 use Rattle.run.specs.Given.{GivenPromises}
 use Rattle.simulator.specs.declared.Counts.{Counts}
-use Rattle.simulator.specs.declared.Simulated.{Simulated}
-use Rattle.simulator.specs.Answers.{simulated_is, given_by, AnswersKeepPromises}
+use Rattle.simulator.specs.Answers.{given_by, AnswersKeepPromises}
 use Rattle.fcwfa_simulator.specs.Numbers.{counts_numbers, counts_in, NumbersKeepPromises}
 
-pub completed_keeps : (s : Schedule) {r : Simulated} {counts : Counts} {numbers decisions rounds : List ℕ} → AnswersKeepPromises s r decisions rounds
-    → simulated_is r ≡ accepted counts → numbers ≡ counts_numbers counts → NumbersKeepPromises s 0 numbers decisions rounds
+pub completed_keeps : (s : Schedule) {r : Result Counts Question} {counts : Counts} {numbers decisions rounds : List ℕ}
+    → AnswersKeepPromises s r decisions rounds → answer_is r ≡ accepted counts → numbers ≡ counts_numbers counts → NumbersKeepPromises s 0 numbers decisions rounds
 completed_keeps s {counts = counts} {decisions = decisions} {rounds = rounds} h e given =
     record {
       kept =

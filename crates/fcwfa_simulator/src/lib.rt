@@ -10,10 +10,11 @@ ghost use Rattle.std.specs.Prelude.{◌≡◌};
 ghost use Rattle.schedule.specs.Schedule.{schedule_of};
 ghost use Rattle.fcwfa_simulator.specs.Numbers.{counts_numbers, SimulatesNumbers, counted_numbers};
 
+use schedule::Tables;
 use sets::Set;
-use simulator::{Counts, Simulated};
+use simulator::Counts;
 
-// The four counts in the report's order.
+// The four counts in the report's order. A function, as no `From` can be made for types that are all of other crates.
 fn counts_numbers(counts: Counts) -> [usize; 4]
     ensures are { result ≡ counts_numbers counts }
 {
@@ -21,7 +22,8 @@ fn counts_numbers(counts: Counts) -> [usize; 4]
 }
 
 // Runs the schedule of these tables to its end: `decisions` and `rounds` get the decision of each
-// process, 2 for none, and its round, 0 for none; `counts` gets f, first, last and messages.
+// process, 2 for none, and its round, 0 for none; `counts` gets f, first, last and messages. The interface for
+// C fixes the parameters.
 #[unsafe(no_mangle)]
 pub extern "C" fn fcwfa_simulate(
     n: usize,
@@ -35,13 +37,19 @@ pub extern "C" fn fcwfa_simulate(
 ) -> u8
     ensures simulated { SimulatesNumbers (schedule_of n t votes.now crashes.now reaches.now) decisions.old rounds.old counts.old result decisions.new rounds.new counts.new }
 {
-    let answer = simulator::simulate(n, t, votes, crashes, reaches, decisions, rounds);
-    match answer {
-        Simulated::Completed(given) => {
+    let tables = Tables {
+        n,
+        t,
+        votes,
+        crashes,
+        reaches,
+    };
+    match simulator::simulate(&tables, decisions, rounds) {
+        Ok(given) => {
             *counts = counts_numbers(given);
             0
         }
-        Simulated::Refused(number) => number,
+        Err(question) => question.into(),
     }
 }
 

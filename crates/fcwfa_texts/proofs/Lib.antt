@@ -1,2 +1,3 @@
 pub mod InOrder
 pub mod Told
+mod Named

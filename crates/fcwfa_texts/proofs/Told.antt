@@ -7,12 +7,13 @@ use lib.ListN.{get_or}
 use Rattle.laws.specs.Answer.{Answer, accepted, refused}
 use Rattle.laws.proofs.Answer.{answer_accepted, answer_refused, place_given}
 use Rattle.sets.specs.Largest.{largest}
-use Rattle.text.specs.Forms.{Sizes}
+use Rattle.text.specs.declared.Sizes.{Sizes}
 use Rattle.text.specs.Reading.{longest}
 use Rattle.reader.specs.Answers.{read_answer}
 use Rattle.reader.proofs.Texts.{read_numbered}
-use Rattle.writer.specs.Answers.{write_answer}
+use Rattle.writer.specs.Answers.{write_question, write_answer}
 use Rattle.fcwfa_texts.specs.Numbers.{number_of, read_numbers, Told}
+use Rattle.fcwfa_texts.proofs.Named.{write_named, read_named}
 
 -- the answer that the three numbers of a reading tell
 sizes_told : (a : Answer Sizes ℕ) (lent now : List ℕ) → ((number k : ℕ) → a ≡ refused number k → number ≢ 0) → 0 ≡ number_of a → now ≡ read_numbers a lent
@@ -31,9 +32,15 @@ told = record {
       let z = sym h.number_is in
       record { answered = ap accepted (h.used_given ∙ place_given _ _ _ z) ∙ sym (answer_accepted _ _ tt z); text_written = h.text_written };
   not_written = λ s text used number text_now used_now some h.
+      let not_zero : write_question largest s text ≢ 0 = λ z. some (h.number_is ∙ z) in
+      let named = write_named largest s text not_zero in
       record {
-        answered = ap (λ (k : ℕ). refused k tt) h.number_is ∙ sym (answer_refused _ _ tt (λ z. some (h.number_is ∙ z)));
-        text_written = h.text_written;
+        question = named.question;
+        its_number = named.its_number ∙ sym h.number_is;
+        refused = record {
+          answered = ap (λ (k : ℕ). refused k tt) named.its_number ∙ sym (answer_refused _ _ tt not_zero);
+          text_written = h.text_written;
+        };
       };
   was_read = λ text votes crashes reaches lent v c m now h.
       record {
@@ -43,10 +50,16 @@ told = record {
         reaches_read = h.reaches_read;
       };
   not_read = λ text votes crashes reaches lent number v c m now some h.
+      let told = line_told (read_answer largest longest text votes crashes reaches) lent now number some h.number_is h.read_given in
+      let named = read_named text largest longest votes crashes reaches number (get_or now 2 0) (sym told) in
       record {
-        answered = line_told (read_answer largest longest text votes crashes reaches) lent now number some h.number_is h.read_given;
-        votes_read = h.votes_read;
-        crashes_read = h.crashes_read;
-        reaches_read = h.reaches_read;
+        question = named.question;
+        its_number = named.its_number;
+        refused = record {
+          answered = ap (λ (k : ℕ). refused k (get_or now 2 0)) named.its_number ∙ told;
+          votes_read = h.votes_read;
+          crashes_read = h.crashes_read;
+          reaches_read = h.reaches_read;
+        };
       };
 }

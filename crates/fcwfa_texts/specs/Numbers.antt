@@ -1,16 +1,14 @@
 -- What the writer and the reader give as numbers: 0 or the number of a refusal; the length that was used; n and t, or the line of a refusal.
-use Rattle.std.specs.Prelude.{ℕ, ◌≡◌, List, [], ◌∷◌, length, get_or}
+use Rattle.std.specs.Prelude.{ℕ, ◌≡◌, List, [], ◌∷◌, length, get_or, Ok, Err}
 use Rattle.laws.specs.Answer.{Answer, accepted, refused, place_after}
+use Rattle.laws.specs.declared.question.Question.{Question}
+use Rattle.laws.specs.Question as Question
 use Rattle.sets.specs.Largest.{largest}
 use Rattle.schedule.specs.Schedule.{Schedule}
-use Rattle.text.specs.Forms.{Sizes}
+use Rattle.text.specs.declared.Sizes.{Sizes}
 use Rattle.text.specs.Written.{text_of}
 use Rattle.text.specs.Reading.{longest}
-use Rattle.reader.specs.declared.Reading.TheVariants.{Read}
-use Rattle.reader.specs.declared.Reading.TheVariants as Reading
 use Rattle.reader.specs.Answers.{read_answer, votes_after, crashes_after, reaches_after, Reads}
-use Rattle.writer.specs.declared.Writing.TheVariants.{Written}
-use Rattle.writer.specs.declared.Writing.TheVariants as Writing
 use Rattle.writer.specs.Answers.{write_question, buffer_after, WritesSchedule}
 
 -- "The first "no" gives its number.", and 0 is given where there is none
@@ -46,17 +44,29 @@ pub record ReadsNumbers (text votes crashes reaches read : List ℕ) (number : �
   pub reaches_read : reaches_now ≡ reaches_after largest longest text votes crashes reaches
   pub read_given : read_now ≡ read_numbers (read_answer largest longest text votes crashes reaches) read
 
--- What the numbers tell a caller: 0 that the text was written, or read, and any other number that the call was refused with it. So a call on numbers is a call
--- of the writer or of the reader with that answer, and what `RoundTrips` of the crate `writer` says of those it says of these. Proved in proofs/Told.antt:
--- `told : Told`.
+-- A call of the writer that is refused by the question with this number.
+pub record RefusedWriting (s : Schedule) (text : List ℕ) (number : ℕ) (text_now : List ℕ) : Type 0 where
+  pub question : Question
+  pub its_number : Question.number_of question ≡ number
+  pub refused : WritesSchedule s text (Err question) text_now
+
+-- A call of the reader that is refused by the question with this number, and this line.
+pub record RefusedReading (text votes crashes reaches : List ℕ) (number line : ℕ) (votes_now crashes_now reaches_now : List ℕ) : Type 0 where
+  pub question : Question
+  pub its_number : Question.number_of question ≡ number
+  pub refused : Reads text votes crashes reaches (Err (record { question = question; back = line })) votes_now crashes_now reaches_now
+
+-- What the numbers tell a caller: 0 that the text was written, or read, and any other number that the call was refused by the question with it.
+-- So a call on numbers is a call of the writer or of the reader with that answer, and what `RoundTrips` of the crate `writer` says of those it
+-- says of these. Proved in proofs/Told.antt: `told : Told`.
 pub record Told : Type 0 where
   pub was_written : (s : Schedule) (text : List ℕ) (used : ℕ) (text_now : List ℕ) (used_now : ℕ)
-      → WritesNumbers s text used 0 text_now used_now → WritesSchedule s text (Written used_now) text_now
+      → WritesNumbers s text used 0 text_now used_now → WritesSchedule s text (Ok used_now) text_now
   pub not_written : (s : Schedule) (text : List ℕ) (used number : ℕ) (text_now : List ℕ) (used_now : ℕ) → (number ≡ 0 → ⊥)
-      → WritesNumbers s text used number text_now used_now → WritesSchedule s text (Writing.Refused number) text_now
+      → WritesNumbers s text used number text_now used_now → RefusedWriting s text number text_now
   pub was_read : (text votes crashes reaches lent votes_now crashes_now reaches_now read_now : List ℕ)
       → ReadsNumbers text votes crashes reaches lent 0 votes_now crashes_now reaches_now read_now
-      → Reads text votes crashes reaches (Read (get_or read_now 0 0) (get_or read_now 1 0)) votes_now crashes_now reaches_now
+      → Reads text votes crashes reaches (Ok (record { n = get_or read_now 0 0; t = get_or read_now 1 0 })) votes_now crashes_now reaches_now
   pub not_read : (text votes crashes reaches lent : List ℕ) (number : ℕ) (votes_now crashes_now reaches_now read_now : List ℕ) → (number ≡ 0 → ⊥)
       → ReadsNumbers text votes crashes reaches lent number votes_now crashes_now reaches_now read_now
-      → Reads text votes crashes reaches (Reading.Refused number (get_or read_now 2 0)) votes_now crashes_now reaches_now
+      → RefusedReading text votes crashes reaches number (get_or read_now 2 0) votes_now crashes_now reaches_now

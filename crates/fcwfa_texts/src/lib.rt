@@ -10,11 +10,11 @@
 ghost use Rattle.schedule.specs.Schedule.{schedule_of};
 ghost use Rattle.fcwfa_texts.specs.Numbers.{WritesNumbers, ReadsNumbers};
 
-use reader::Reading;
+use schedule::Tables;
 use sets::Set;
-use writer::Writing;
 
-// Writes the text of the schedule of these tables to the start of `text`, and its length to `used`.
+// Writes the text of the schedule of these tables to the start of `text`, and its length to `used`. The interface for
+// C fixes the parameters.
 #[unsafe(no_mangle)]
 pub extern "C" fn fcwfa_write_schedule(
     n: usize,
@@ -27,13 +27,19 @@ pub extern "C" fn fcwfa_write_schedule(
 ) -> u8
     ensures written { WritesNumbers (schedule_of n t votes.now crashes.now reaches.now) text.old used.old result text.new used.new }
 {
-    let answer = writer::write(n, t, votes, crashes, reaches, text);
-    match answer {
-        Writing::Written(length) => {
+    let tables = Tables {
+        n,
+        t,
+        votes,
+        crashes,
+        reaches,
+    };
+    match writer::write(&tables, text) {
+        Ok(length) => {
             *used = length;
             0
         }
-        Writing::Refused(number) => number,
+        Err(question) => question.into(),
     }
 }
 
@@ -49,15 +55,14 @@ pub extern "C" fn fcwfa_read_schedule(
 ) -> u8
     ensures tables_read { ReadsNumbers text.now votes.old crashes.old reaches.old read.old result votes.new crashes.new reaches.new read.new }
 {
-    let answer = reader::read(text, votes, crashes, reaches);
-    match answer {
-        Reading::Read(n, t) => {
-            *read = [n, t, read[2]];
+    match reader::read(text, votes, crashes, reaches) {
+        Ok(sizes) => {
+            *read = [sizes.n, sizes.t, read[2]];
             0
         }
-        Reading::Refused(number, line) => {
-            *read = [read[0], read[1], line];
-            number
+        Err(refusal) => {
+            *read = [read[0], read[1], refusal.back];
+            refusal.question.into()
         }
     }
 }

@@ -11,10 +11,12 @@ ghost use Rattle.schedule.specs.Schedule.{schedule_of};
 ghost use Rattle.fcwfa_why.specs.Numbers.{kind_of, ExplainsNumbers};
 
 use explanation::explain;
-use member::{Explained, Rule};
+use member::Rule;
+use schedule::Tables;
 use sets::Set;
 
-// The kind of a reason; where no rule is named, the process crashed.
+// The kind of a reason; where no rule is named, the process crashed. A function, as no `From` can be made for types
+// that are all of other crates.
 fn kind(rule: Rule) -> usize
     ensures is { result ≡ kind_of rule }
 {
@@ -29,7 +31,7 @@ fn kind(rule: Rule) -> usize
 }
 
 // Why the process with this number decided in the run of the schedule of these tables: `why` gets the kind of
-// the reason and the number that goes with it.
+// the reason and the number that goes with it. The interface for C fixes the parameters.
 #[unsafe(no_mangle)]
 pub extern "C" fn fcwfa_why(
     n: usize,
@@ -42,13 +44,18 @@ pub extern "C" fn fcwfa_why(
 ) -> u8
     ensures explained { ExplainsNumbers (schedule_of n t votes.now crashes.now reaches.now) id why.old result why.new }
 {
-    let answer = explain(n, t, votes, crashes, reaches, id);
-    match answer {
-        Explained::Because(reason) => {
-            let rule = reason.rule;
-            *why = [kind(rule), reason.number as usize];
+    let tables = Tables {
+        n,
+        t,
+        votes,
+        crashes,
+        reaches,
+    };
+    match explain(&tables, id) {
+        Ok(reason) => {
+            *why = [kind(reason.rule), usize::from(reason.number)];
             0
         }
-        Explained::Refused(number) => number,
+        Err(question) => question.into(),
     }
 }

@@ -1,11 +1,12 @@
 -- The forms of fields, case by case as they are read, and that the bytes of a field stand in the text. Assumes nothing.
-use mathlib.Core.Path.{◌≡◌}
+use mathlib.Core.Path.{◌≡◌, refl}
 use mathlib.Core.Bool.{true, false}
 use mathlib.Core.List.{List}
 use Prim.Native.Nat.{ℕ, ◌+◌, ◌-◌, ◌*◌, ◌≤◌, ◌<◌}
 use borrow.Author.Tests.{eq-eqb, ne_eqb, ltb-true, le-leb, lt-leb}
 use lib.Dec.{ltb, eqb}
 use lib.ListN.{length, get_or, drop}
+use Rattle.std.specs.Char.{is_ascii_digit}
 use Rattle.laws.specs.Test.{within}
 use Rattle.laws.specs.Below.{count}
 use Rattle.sets.specs.Sets.{set_of}
@@ -13,6 +14,11 @@ use Rattle.laws.proofs.Test.{and_left, within_low, within_high}
 use Rattle.fields.specs.Found.{found, wrong}
 use Rattle.fields.specs.Decimal.{letter, is_digit}
 use Rattle.fields.specs.Fields.{has_byte, ended, number_field, digit_field, reach_field, reach_up_to}
+
+-- the library's test of a digit asks the same
+pub digit_test : (b : ℕ) → is_ascii_digit b ≡ is_digit b
+unfolding is_digit within
+digit_test b = refl
 
 pub digit_within : (b : ℕ) → is_digit b ≡ true → (letter 0 ≤ b) × (b ≤ letter 9)
 unfolding is_digit
@@ -23,7 +29,7 @@ unfolding has_byte
 byte_within b text k e = ltb-true k (length text) (and_left (ltb k (length text)) (eqb (get_or text k 0) b) e)
 
 module _ (end : ℕ) (text : List ℕ) where
-  module _ (value k : ℕ) where
+  module _ {A : Type 0} (value : A) (k : ℕ) where
     pub ended_not : has_byte end text k ≡ false → ended end text value k ≡ wrong
     unfolding ended
     ended_not e = rw e

@@ -1,15 +1,12 @@
 -- The fields of a line: "fields are split by one space", and the last ends with the line's LF. So each field is read with the byte that ends it. Past
 -- the end of a text byte 0 stands here, which is no digit.
-use Rattle.std.specs.Prelude.{ℕ, ◌+◌, ◌-◌, ◌*◌, ◌≤◌, List, [], ◌∷◌, Bool, true, false, cond, ◌&&◌, not, length, get_or, drop, ltb, leb, eqb}
+use Rattle.std.specs.Prelude.{ℕ, ◌+◌, ◌-◌, ◌*◌, ◌≤◌, List, [], ◌∷◌, Option, Some, None, Bool, true, false, cond, ◌&&◌, not, length, get_or, drop, ltb, leb, eqb}
 use Rattle.laws.specs.Test.{within}
 use Rattle.laws.specs.Below.{count}
 use Rattle.sets.specs.Sets.{set_of}
 use Rattle.fields.specs.Found.{Found, found, wrong}
 use Rattle.fields.specs.Decimal.{letter, is_digit}
 use Rattle.fields.specs.declared.Field.{Field}
-use Rattle.fields.specs.declared.Field.TheVariants.{Value, NoValue}
-use Rattle.fields.specs.declared.Reach.{Reach}
-use Rattle.fields.specs.declared.Reach.TheVariants.{Names, NoReach}
 
 abbrev pub space : ℕ
 space = 32
@@ -30,7 +27,7 @@ module _ (end : ℕ) (text : List ℕ) where
   digit_at k = get_or text k 0 - letter 0
 
   -- the value of a field of k bytes, if the byte that ends it follows
-  unfoldable pub ended : ℕ → ℕ → Found ℕ
+  unfoldable pub ended : {A : Type 0} → A → ℕ → Found A
   ended value k = cond (has_byte end text k) (found value (drop (k + 1) text)) wrong
 
   -- "numbers have one or two digits without a leading zero (zero itself is the one digit 0)"
@@ -57,19 +54,11 @@ module _ (end : ℕ) (text : List ℕ) where
   reach_up_to limit n = cond (leb n limit) (reach_field n) wrong
 
 -- What an answer says of the start of a text: a value and how many bytes it takes, its end included; or that none is there.
-abbrev pub field_is : List ℕ → Field → Found ℕ
-field_is text (Value value used) = found value (drop used text)
-field_is text NoValue = wrong
-
-abbrev pub reach_is : List ℕ → Reach → Found ℕ
-reach_is text (Names reach used) = found reach (drop used text)
-reach_is text NoReach = wrong
+abbrev pub field_is : {A : Type 0} → List ℕ → Option (Field A) → Found A
+field_is text (Some field) = found field.value (drop field.used text)
+field_is text None = wrong
 
 -- the bytes that a value takes stand in the text, so that what is left tells how many they are
-abbrev pub field_within : List ℕ → Field → Type 0
-field_within text (Value value used) = used ≤ length text
-field_within text NoValue = Unit {0}
-
-abbrev pub reach_within : List ℕ → Reach → Type 0
-reach_within text (Names reach used) = used ≤ length text
-reach_within text NoReach = Unit {0}
+abbrev pub field_within : {A : Type 0} → List ℕ → Option (Field A) → Type 0
+field_within text (Some field) = field.used ≤ length text
+field_within text None = Unit {0}

@@ -6,22 +6,16 @@ ghost use Rattle.sets.specs.Largest.{largest};
 ghost use Rattle.sets.specs.Sets.{set_of};
 ghost use Rattle.fields.specs.Decimal.{letter};
 
-use crate::bytes::byte_at;
-use laws::{bit, is_within};
 use sets::Set;
 
 // How many of the first n bytes are a letter 0 or 1.
 pub fn letter_count(text: &[u8], n: usize) -> usize
     ensures counted { result ≡ count n (λ j. within (letter 0) (get_or text.now j 0) (letter 1)) }
 {
-    let mut k: usize = 0;
-    let mut j: usize = 0;
-    while j < n {
-        let b = byte_at(text, j);
-        k += bit(is_within(b'0' as usize, b as usize, b'1' as usize)) as usize;
-        j += 1;
-    }
-    k
+    text.iter()
+        .take(n)
+        .filter(|&b| matches!(b, b'0'..=b'1'))
+        .count()
 }
 
 // The set that n letters 0 or 1 stand for: the letter at place j is bit j.
@@ -31,11 +25,9 @@ pub fn reach_value(text: &[u8], n: usize) -> Set
     ensures summed { result ≡ set_of n (λ j. get_or text.now j 0 - letter 0) }
 {
     let mut reach: Set = 0;
-    let mut j: usize = 0;
-    while j < n {
-        let digit = byte_at(text, j) - b'0';
+    for (j, &letter) in text[..n].iter().enumerate() {
+        let digit = letter - b'0';
         reach += (digit as Set) << (j as Set);
-        j += 1;
     }
     reach
 }

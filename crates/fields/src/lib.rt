@@ -12,99 +12,82 @@ mod letters;
 
 ghost use Rattle.std.specs.Prelude.{◌≡◌};
 ghost use Rattle.sets.specs.Largest.{largest};
-ghost use Rattle.fields.specs.Fields.{starts_with, ended as Fields·ended, number_field, digit_field, reach_up_to, field_is, field_within, reach_is, reach_within};
+ghost use Rattle.fields.specs.Fields.{starts_with, ended as Fields·ended, number_field, digit_field, reach_up_to, field_is, field_within};
 
-use crate::bytes::{byte_at, has_byte, is_digit};
+use crate::bytes::has_byte;
 use crate::letters::{letter_count, reach_value};
 use sets::{Set, WIDTH};
 
 // The byte that splits fields.
 pub const SPACE: u8 = 32;
 
-// A number and how many bytes it takes, its end included; or no number of the form asked for.
+// A value and how many bytes it takes at the start of a text, its end included. A reach is a number, bit j for the
+// letter at place j.
 #[derive(Clone, Copy)]
-pub enum Field {
-    Value(u8, usize),
-    NoValue,
-}
-
-// A reach as a number, bit j for the letter at place j, and how many bytes it takes, its end
-// included; or no reach.
-#[derive(Clone, Copy)]
-pub enum Reach {
-    Names(Set, usize),
-    NoReach,
+pub struct Field<T> {
+    pub value: T,
+    pub used: usize,
 }
 
 // Whether the text starts with these letters.
 pub fn starts_with(text: &[u8], start: &[u8]) -> bool
     ensures tested { result ≡ starts_with start.now text.now }
 {
-    let mut i: usize = 0;
-    while i < start.len() {
-        if !has_byte(text, i, start[i]) {
-            return false;
-        }
-        i += 1;
-    }
-    true
+    text.starts_with(start)
 }
 
 // A field of k bytes with this value, if the byte that ends it follows.
-fn ended(text: &[u8], end: u8, value: u8, k: usize) -> Field
+fn ended<T: Copy>(text: &[u8], end: u8, value: T, k: usize) -> Option<Field<T>>
     ensures read { field_is text.now result ≡ Fields·ended end text.now value k }
     ensures within { field_within text.now result }
 {
     if !has_byte(text, k, end) {
-        return Field::NoValue;
+        return None;
     }
-    Field::Value(value, k + 1)
+    Some(Field { value, used: k + 1 })
 }
 
 // A number of one or two digits without a leading zero.
-pub fn number_field(text: &[u8], end: u8) -> Field
+pub fn number_field(text: &[u8], end: u8) -> Option<Field<u8>>
     ensures read { field_is text.now result ≡ number_field end text.now }
     ensures within { field_within text.now result }
 {
-    let first = byte_at(text, 0);
-    if !is_digit(first) {
-        return Field::NoValue;
+    let first = text.first().copied().unwrap_or(0);
+    if !first.is_ascii_digit() {
+        return None;
     }
-    let second = byte_at(text, 1);
-    if !is_digit(second) {
+    let second = text.get(1).copied().unwrap_or(0);
+    if !second.is_ascii_digit() {
         return ended(text, end, first - b'0', 1);
     }
     if first == b'0' {
-        return Field::NoValue;
+        return None;
     }
     ended(text, end, 10 * (first - b'0') + (second - b'0'), 2)
 }
 
 // One digit.
-pub fn digit_field(text: &[u8], end: u8) -> Field
+pub fn digit_field(text: &[u8], end: u8) -> Option<Field<u8>>
     ensures read { field_is text.now result ≡ digit_field end text.now }
     ensures within { field_within text.now result }
 {
-    let first = byte_at(text, 0);
-    if !is_digit(first) {
-        return Field::NoValue;
+    let digit = text.first().copied().unwrap_or(0);
+    if !digit.is_ascii_digit() {
+        return None;
     }
-    ended(text, end, first - b'0', 1)
+    ended(text, end, digit - b'0', 1)
 }
 
 // A reach of n letters 0 or 1. One of more letters than a set has bits is none.
-pub fn reach_field(text: &[u8], n: usize, end: u8) -> Reach
-    ensures read { reach_is text.now result ≡ reach_up_to end text.now largest n }
-    ensures within { reach_within text.now result }
+pub fn reach_field(text: &[u8], n: usize, end: u8) -> Option<Field<Set>>
+    ensures read { field_is text.now result ≡ reach_up_to end text.now largest n }
+    ensures within { field_within text.now result }
 {
     if WIDTH < n {
-        return Reach::NoReach;
+        return None;
     }
     if letter_count(text, n) != n {
-        return Reach::NoReach;
+        return None;
     }
-    if !has_byte(text, n, end) {
-        return Reach::NoReach;
-    }
-    Reach::Names(reach_value(text, n), n + 1)
+    ended(text, end, reach_value(text, n), n)
 }

@@ -12,7 +12,8 @@ use Rattle.laws.specs.Answer.{ask, Answer, refused, answer, and_next}
 use Rattle.lines.specs.Lines.{after_lines}
 use Rattle.fields.specs.Fields.{starts_with}
 use Rattle.member.specs.Opening.{size_questions}
-use Rattle.text.specs.Forms.{sizes_heading, processes_heading, Sizes, sizes_at}
+use Rattle.text.specs.declared.Sizes.{Sizes}
+use Rattle.text.specs.Forms.{sizes_heading, processes_heading, sizes_at}
 use Rattle.text.specs.Reading.{is_found, on_line, sizes_in, head_questions}
 
 module _ (text : List ℕ) (limit most : ℕ) (x : Answer Sizes ℕ) where

@@ -1,9 +1,9 @@
 -- What a saying tells of the state; and what hearing answers once the questions about the state are passed: it goes by those about the row.
 -- Assumes nothing.
 use mathlib.Core.Path.{◌≡◌, sym, ◌∙◌, ap, ap₂}
-use mathlib.Core.Logic.{inl, inr, ◌≢◌}
+use mathlib.Core.Logic.{inl, inr}
 use mathlib.Core.List.{List}
-use mathlib.Core.Bool.{true, false}
+use mathlib.Core.Bool.{true, false, not}
 use Prim.Native.Nat.{ℕ, ◌-◌}
 use native.Mathlib.Omega.{arith}
 use borrow.Author.Tests.{eqb-true, eq-eqb}
@@ -11,12 +11,14 @@ use lib.Dec.{eqb}
 use lib.ListN.{length, get_or}
 use Rattle.laws.specs.Answer.{ask, accepted, refused, answer}
 use Rattle.laws.proofs.Test.{true_or_false}
-use Rattle.laws.proofs.Answer.{passed, answer_accepted, answer_refused, value_or, not_accepted}
+use Rattle.laws.proofs.Answer.{passed, refused_is, value_or, not_accepted}
+use Rattle.laws.proofs.Refusals.{is_accepted}
 use Rattle.member.specs.declared.Member.{Member}
 use Rattle.member.specs.declared.Tally.{Tally}
 use Rattle.member.specs.State.{in_range, stopped}
 use Rattle.member.specs.Saying.{says}
 use Rattle.member.specs.Hearing.{tally_of, becomes, silent_after, with_silent, hears}
+use Rattle.hearing.specs.declared.heard.HeardRow.{HeardRow}
 use Rattle.member.specs.Questions.{say_question, row_question, hear_question}
 use Rattle.member.specs.Answers.{say_answer, hear_answer}
 
@@ -26,6 +28,13 @@ module _ (limit : ℕ) (m : Member) {x : ℕ} where
   unfolding say_answer say_question ask answer
   say_refused e = elim (true_or_false (in_range limit m)) [ inl y ↦ absurd (not_accepted (rw y at e)) | inr n ↦ n ]
 
+  -- so where a saying is refused hearing is, by the same question
+  pub say_first : (row : List ℕ) → refused x tt ≡ say_answer limit m → x ≡ hear_question limit m row
+  unfolding say_answer say_question hear_question ask
+  say_first row e =
+      let n = say_refused e in
+      rw n (simp n at ((refused_is _ _ _ e).0))
+
   pub say_in_range : accepted x ≡ say_answer limit m → in_range limit m ≡ true
   unfolding say_answer say_question ask answer
   say_in_range e = elim (true_or_false (in_range limit m)) [ inl y ↦ y | inr n ↦ absurd (not_accepted (sym (rw n at e))) ]
@@ -34,26 +43,32 @@ module _ (limit : ℕ) (m : Member) {x : ℕ} where
   unfolding say_answer say_question ask answer
   say_code e = sym (ap (value_or x) (rw (say_in_range e) at e))
 
--- a row that passes the questions about it holds nothing but codes
-pub all_codes : (m : Member) (own q : ℕ) (k : Tally) → q ≡ row_question m own k → q ≡ 0 → k.others ≡ 0
-unfolding row_question
-all_codes m own q k asked h = eqb-true k.others 0 (passed (eqb k.others 0) 14 _ (omega arith) (sym asked ∙ h)).0
+-- a row that is accepted holds nothing but codes
+pub all_codes : (limit : ℕ) (m : Member) (row : List ℕ) → hear_question limit m row ≡ 0 → (k : Tally) → k ≡ tally_of row → k.others ≡ 0
+unfolding hear_question row_question
+all_codes limit m row e k counted =
+    let p1 = passed (in_range limit m) 11 _ (omega arith) e in
+    let p2 = passed (not (stopped m)) 12 _ (omega arith) p1.1 in
+    let p3 = passed (eqb (length row) m.n) 13 _ (omega arith) p2.1 in
+    let p4 = passed (eqb (tally_of row).others 0) 14 _ (omega arith) p3.1 in
+    ap (λ (x : Tally). x.others) counted ∙ eqb-true (tally_of row).others 0 p4.0
 
-module _ (limit : ℕ) (m : Member) (row : List ℕ) (r : in_range limit m ≡ true) (s : stopped m ≡ false) (l : length row ≡ m.n) where
-  asks_row : hear_question limit m row ≡ row_question m (get_or row (m.id - 1) 0) (tally_of row)
-  unfolding hear_question ask
-  asks_row = rw (r, s, eq-eqb (length row) m.n l)
+-- and its member is in range
+pub heard_in_range : (limit : ℕ) (m : Member) (row : List ℕ) → hear_question limit m row ≡ 0 → in_range limit m ≡ true
+unfolding hear_question
+heard_in_range limit m row e = (passed (in_range limit m) 11 _ (omega arith) e).0
 
-  module _ (q : ℕ) (k : Tally) (counted : k ≡ tally_of row) (asked : q ≡ row_question m (get_or row (m.id - 1) 0) k) where
-    question_is : hear_question limit m row ≡ q
-    question_is = asks_row ∙ sym (rw counted at asked)
+-- Past the questions about the state, hearing asks those about the row.
+pub asks_row : (limit : ℕ) (m : Member) (row : List ℕ) → in_range limit m ≡ true → stopped m ≡ false → length row ≡ m.n → (k : Tally) → k ≡ tally_of row
+    → hear_question limit m row ≡ row_question m (get_or row (m.id - 1) 0) k
+unfolding hear_question ask
+asks_row limit m row r s l k counted = rw (r, s, eq-eqb (length row) m.n l, counted)
 
-    pub row_refused : q ≢ 0 → refused q m ≡ hear_answer limit m row
-    unfolding hear_answer
-    row_refused h = rw question_is (sym (answer_refused q (hears m row) m h))
-
-    pub row_accepted : q ≡ 0 → (next : Member) (set : ℕ) → next ≡ becomes m k → set ≡ silent_after m row → (x : Member) → x ≡ with_silent next set
-        → accepted x ≡ hear_answer limit m row
-    unfolding hear_answer
-    row_accepted h next set e f x g =
-        rw question_is (ap accepted (g ∙ ap₂ with_silent (e ∙ ap (becomes m) counted) f) ∙ sym (answer_accepted q (hears m row) m h))
+-- what hearing an accepted row answers
+pub row_accepted : (limit : ℕ) (m : Member) (row : List ℕ) → 0 ≡ hear_question limit m row → (h : HeardRow) → (h.member ≡ m) × (h.row.now ≡ row)
+    → (next : Member) (set : ℕ) → next ≡ becomes h.member h.counts → set ≡ silent_after h.member h.row.now → (x : Member) → x ≡ with_silent next set → accepted x ≡ hear_answer limit m row
+unfolding hear_answer
+row_accepted limit m row z h same next set e f x g =
+    let moved : next ≡ becomes h.member (tally_of h.row.now) = e ∙ ap (becomes h.member) h.counted in
+    let whole : x ≡ hears h.member h.row.now = g ∙ ap₂ with_silent moved f in
+    ap accepted (whole ∙ ap₂ hears same.0 same.1) ∙ is_accepted _ (hears m row) m z

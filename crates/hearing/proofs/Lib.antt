@@ -1,4 +1,5 @@
 pub mod Counted
+pub mod HeardRows
 pub mod Gathered
 pub mod Places
 pub mod SilentRow

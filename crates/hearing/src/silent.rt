@@ -1,10 +1,10 @@
 // Who was silent: the set behind the quiet-round rule (document 02, K7). It is made in a pass of its own over the
 // row, and only where a row sets it.
-ghost use Rattle.std.specs.Prelude.{◌≡◌, ◌≤◌, length};
-ghost use Rattle.sets.specs.Largest.{largest};
-ghost use Rattle.member.specs.Hearing.{tally_of, sets_silent, silent_after, with_silent};
+ghost use Rattle.std.specs.Prelude.{◌≡◌};
+ghost use Rattle.member.specs.Hearing.{sets_silent, silent_after, with_silent};
 
 use crate::codes::is_told;
+use crate::heard::HeardRow;
 use crate::zeros::zero_places;
 use member::{Member, Tally};
 use sets::Set;
@@ -22,14 +22,13 @@ fn is_set(m: Member, k: Tally) -> bool
     !is_told(k)
 }
 
-// The silent set after a row of codes with these counts. Where it is set and every code is an estimate, nobody
-// was silent, and no pass is made.
-pub fn silent_after(m: Member, row: &[u8], k: Tally) -> Set
-    requires short { length row.now ≤ largest }
-    requires counted { k ≡ tally_of row.now }
-    requires codes { k.others ≡ 0 }
-    ensures left { result ≡ silent_after m row.now }
+// The silent set after a row. Where it is set and every code is an estimate, nobody was silent, and no pass is made.
+pub fn silent_after(heard: &HeardRow) -> Set
+    ensures left { result ≡ silent_after heard.now.member heard.now.row.now }
 {
+    let m = heard.member;
+    let k = heard.counts;
+    let row = heard.row;
     if !is_set(m, k) {
         return m.silent;
     }
@@ -44,13 +43,5 @@ pub fn silent_after(m: Member, row: &[u8], k: Tally) -> Set
 pub fn with_silent(m: Member, set: Set) -> Member
     ensures is { result ≡ with_silent m set }
 {
-    Member {
-        n: m.n,
-        t: m.t,
-        id: m.id,
-        round: m.round,
-        estimate: m.estimate,
-        decided: m.decided,
-        silent: set,
-    }
+    Member { silent: set, ..m }
 }

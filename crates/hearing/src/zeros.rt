@@ -45,7 +45,8 @@ fn eight(row: &[u8], at: usize) -> Set
     zeros * 0x204081 / 0x400000 % 256
 }
 
-// The set of the places among the whole eights of a row.
+// The set of the places among the whole eights of a row. The place is counted in a `while`: with a `for` over the
+// eights a whole run was measured a sixth slower.
 fn eights(row: &[u8]) -> Set
     requires short { length row.now ≤ largest }
     requires low { (j : ℕ) → j < length row.now → get_or row.now j 0 ≤ 2 }
@@ -66,10 +67,8 @@ fn one_by_one(row: &[u8]) -> Set
     ensures named { result ≡ set_of (length row.now) (λ j. Below·bit (eqb (get_or row.now j 0) 0)) }
 {
     let mut set: Set = 0;
-    let mut i: usize = 0;
-    while i < row.len() {
-        set += wide(bit(row[i] == 0)) << (i as Set);
-        i += 1;
+    for (i, &code) in row.iter().enumerate() {
+        set += wide(bit(code == 0)) << (i as Set);
     }
     set
 }

@@ -8,38 +8,37 @@ ghost use Rattle.input.specs.Received.{count_of, EndsFor};
 
 use std::io::Read;
 
-// How many bytes stand at the buffer's start, and why there are no more: it is full or the input is at its end,
-// or a read failed.
+// A read failed, and so many bytes stand at the buffer's start.
 #[derive(Clone, Copy)]
-pub enum Received {
-    Whole(usize),
-    Failed(usize),
+pub struct ReadFailed {
+    pub count: usize,
 }
 
 // How many bytes stand at the buffer's start, whyever reading ended.
-pub fn count_in(received: Received) -> usize
+pub fn count_in(received: Result<usize, ReadFailed>) -> usize
     ensures counted { result ≡ count_of received }
 {
     match received {
-        Received::Whole(count) => count,
-        Received::Failed(count) => count,
+        Ok(count) => count,
+        Err(failed) => failed.count,
     }
 }
 
 // Reads until the buffer is full, the input ends or a read fails. The bytes at its start are the next ones of the
 // input, in order, and none of them is lost.
-pub fn read_full<R: Read>(input: &mut R, buffer: &mut [u8]) -> Received
+pub fn read_full<R: Read>(input: &mut R, buffer: &mut [u8]) -> Result<usize, ReadFailed>
     ensures in_bounds { IsPrefixLen (count_of result) buffer.new }
     ensures bytes { Consumes (R.remaining input.old) (R.remaining input.new) (take (count_of result) buffer.new) }
     ensures ended { EndsFor result (length buffer.new) (R.remaining input.new) }
 {
     let mut done = 0;
+    // it goes on by as much as each read gives, so no range counts its turns
     while done < buffer.len() {
         match input.read(&mut buffer[done..]) {
-            Ok(0) => return Received::Whole(done),
+            Ok(0) => return Ok(done),
             Ok(count) => done += count,
-            Err(_) => return Received::Failed(done),
+            Err(_) => return Err(ReadFailed { count: done }),
         }
     }
-    Received::Whole(done)
+    Ok(done)
 }

@@ -24,6 +24,15 @@ went_on false k others m h e = absurd (h e)
 pub passed : (b : Bool) (k others : ℕ) → 0 < k → ask b k others ≡ 0 → (b ≡ true) × (others ≡ 0)
 passed b k others h e = went_on b k others 0 (λ z. omega arith) e
 
+-- Where the first doesn't come to 0 they come to what it comes to, and else to what the second does.
+pub and_then_ends : (q others : ℕ) → q ≢ 0 → and_then q others ≡ q
+unfolding and_then
+and_then_ends q others h = cond_false (eqb q 0) others q (ne_eqb q 0 h)
+
+pub and_then_goes_on : (q others : ℕ) → q ≡ 0 → and_then q others ≡ others
+unfolding and_then
+and_then_goes_on q others z = cond_true (eqb q 0) others q (eq-eqb q 0 z)
+
 -- Where two rows of questions, one after the other, come to m, and the first is passed if it comes to m, it is passed, and the second comes to m.
 pub and_then_went_on : (q others m : ℕ) → (q ≡ m → q ≡ 0) → and_then q others ≡ m → (q ≡ 0) × (others ≡ m)
 unfolding and_then
@@ -38,8 +47,7 @@ and_then_passed : (q others : ℕ) → and_then q others ≡ 0 → (q ≡ 0) × 
 and_then_passed q others e = and_then_went_on q others 0 (λ z. z) e
 
 pub and_then_passes : (q others : ℕ) → q ≡ 0 → others ≡ 0 → and_then q others ≡ 0
-unfolding and_then
-and_then_passes q others a b = cond_true (eqb q 0) others q (eq-eqb q 0 a) ∙ b
+and_then_passes q others a b = and_then_goes_on q others a ∙ b
 
 -- One row more, as a loop that asks them in turn comes to it.
 pub ask_each_step : (i : ℕ) (q : ℕ → ℕ) → ask_each (i + 1) q ≡ and_then (ask_each i q) (q i)
@@ -66,6 +74,15 @@ ask_each_never zero q m h never e = h (sym e)
 ask_each_never (suc n) q m h never e =
     let before : ask_each n q ≢ m = ask_each_never n q m h never in
     never n (and_then_went_on (ask_each n q) (q n) m (λ z. absurd (before z)) e).1
+
+-- Rows of which the first that doesn't come to 0 is row i come to what it comes to.
+pub ask_each_refused : (n : ℕ) (q : ℕ → ℕ) (m : ℕ) → m ≢ 0 → (i : ℕ) → i < n → 0 ≡ ask_each i q → m ≡ q i → m ≡ ask_each n q
+unfolding ask_each fold
+ask_each_refused zero q m h = below_none (λ i. 0 ≡ ask_each i q → m ≡ q i → m ≡ ask_each zero q)
+ask_each_refused (suc n) q m h =
+    below_or_top (λ i. 0 ≡ ask_each i q → m ≡ q i → m ≡ and_then (ask_each n q) (q n)) n
+    (λ i l z e. let before = ask_each_refused n q m h i l z e in before ∙ sym (and_then_ends (ask_each n q) (q n) (λ w. h (before ∙ w))))
+    (λ z e. e ∙ sym (and_then_goes_on (ask_each n q) (q n) (sym z)))
 
 module _ {A B : Type 0} where
   pub answer_accepted : (q : ℕ) (value : A) (back : B) → q ≡ 0 → answer q value back ≡ accepted value

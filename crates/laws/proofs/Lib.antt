@@ -7,5 +7,6 @@ pub mod Numerals
 pub mod Lists
 pub mod Folds
 pub mod Answer
+pub mod Refusals
 pub mod Filled
 pub mod Overwritten

@@ -3,12 +3,14 @@
 use mathlib.Core.Path.{◌≡◌, refl, sym, ap, ap₂, ◌∙◌}
 use mathlib.Core.Logic.{inl, inr}
 use mathlib.Core.List.{List, [], ◌∷◌, ◌++◌, map}
-use Prim.Native.Nat.{ℕ, zero, suc, ◌<◌}
+use Prim.Native.Nat.{ℕ, zero, suc, ◌+◌, ◌<◌}
 use native.Mathlib.Nat.{not-suc-le-zero, le_of_suc-le-suc}
 use native.Mathlib.Numerals.{add-one}
 use native.Mathlib.Omega.{arith}
-use lib.ListN.{length, get_or, length-append, get_or-append}
-use lib.Seq.{ext_get_or}
+use lib.ListN.{length, get_or, drop, length-append, get_or-append, drop_of_length-le}
+use lib.Seq.{drop-cons, ext_get_or}
+use Rattle.std.specs.Option.{IfSome}
+use Rattle.std.specs.List.{slice_get}
 use Rattle.laws.specs.Below.{tabulate}
 use Rattle.laws.proofs.Counting.{split}
 
@@ -40,11 +42,11 @@ module _ {A : Type 0} where
   read_same (x ∷ l) a b zero h = refl
   read_same (x ∷ l) a b (suc i) h = read_same l a b i (le_of_suc-le-suc h)
 
-  -- two functions that agree along a list agree at each of its places
-  pub agree_at : {B : Type 0} (f g : A → B) (l : List A) (d : A) → map f l ≡ map g l → (i : ℕ) → i < length l → f (get_or l i d) ≡ g (get_or l i d)
-  agree_at f g [] d e i h = absurd (not-suc-le-zero h)
-  agree_at f g (x ∷ l) d e zero h = cc
-  agree_at f g (x ∷ l) d e (suc i) h = agree_at f g l d (cc) i (le_of_suc-le-suc h)
+  -- two functions that agree along a list agree on what stands at a place of it
+  pub agree_at : {B : Type 0} (f g : A → B) (l : List A) (i : ℕ) → map f l ≡ map g l → IfSome (slice_get l i) (λ x. f x ≡ g x)
+  agree_at f g [] i e = tt
+  agree_at f g (x ∷ l) zero e = cc
+  agree_at f g (x ∷ l) (suc i) e = agree_at f g l i (cc)
 
   -- and two that agree below n make the same list
   pub tabulate_same : (n : ℕ) (f g : ℕ → A) → ((i : ℕ) → i < n → f i ≡ g i) → tabulate n f ≡ tabulate n g
@@ -57,3 +59,11 @@ module _ {A : Type 0} where
   tabulate_entries d xs n e =
       let long = length_tabulate n (λ i. get_or xs i d) in
       ext_get_or d (tabulate n (λ i. get_or xs i d)) xs (long ∙ sym e) (λ i b. get_d_tabulate n (λ i. get_or xs i d) i d (omega arith))
+
+  -- what a loop over a list has left after i elements: the next one is at its place, and those after it are left then
+  pub next_left : (xs : List A) (i : ℕ) (d x : A) (rest : List A) → drop i xs ≡ x ∷ rest → (i < length xs) × (x ≡ get_or xs i d) × (rest ≡ drop (i + 1) xs)
+  next_left xs i d x rest e =
+      elim (split (length xs) i) [
+        | inl a ↦ let none : drop i xs ≡ [] = drop_of_length-le xs a in cc
+        | inr a ↦ let next = drop-cons xs i d a in (a, cc, rw (add-one i) (cc))
+      ]

@@ -3,3 +3,4 @@ pub mod Below
 pub mod Answer
 pub mod Filled
 pub mod Quoted
+pub mod Question

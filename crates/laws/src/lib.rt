@@ -1,9 +1,13 @@
 // Tests on numbers that every layer asks. The laws of sums, counts and questions are in proofs/.
 #![tactic(auto)]
 
+mod question;
+
 ghost use Rattle.std.specs.Prelude.{◌≡◌};
 ghost use Rattle.laws.specs.Test.{within};
 ghost use Rattle.laws.specs.Below.{bit as Below·bit};
+
+pub use question::{Question, Refused, refused_by};
 
 // Whether x is from lo to hi.
 pub fn is_within(lo: usize, x: usize, hi: usize) -> bool
@@ -16,5 +20,5 @@ pub fn is_within(lo: usize, x: usize, hi: usize) -> bool
 pub fn bit(test: bool) -> u8
     ensures counted { result ≡ Below·bit test }
 {
-    if test { 1 } else { 0 }
+    u8::from(test)
 }

@@ -1,14 +1,21 @@
--- Parts of a text: what is left from a place on, past a line or past k lines is the text from one place on, so that place tells it. And where the
--- first line of a part ends is seen byte by byte. Assumes nothing.
+-- Parts of a text: what is left from a place on, past a line or past k lines is the text from one place on, so that place tells it. And the
+-- first line of a part ends at its first LF. Assumes nothing.
 use mathlib.Core.Path.{◌≡◌, refl, sym, ap, ◌∙◌}
 use mathlib.Core.Logic.{inl, inr}
 use mathlib.Core.List.{List, []}
-use Prim.Native.Nat.{ℕ, zero, suc, ◌+◌, ◌-◌, ◌≤◌, ◌<◌}
+use Prim.Native.Nat.{ℕ, zero, suc, ◌+◌, ◌-◌}
 use native.Mathlib.Omega.{arith}
-use native.Mathlib.Numerals.{add-one}
-use borrow.Author.Tests.{eq-eqb, ne_eqb}
-use lib.ListN.{length, get_or, take, drop, length-drop, drop_of_length-le}
-use lib.Seq.{drop-cons, drop-drop, take_all}
+use native.Mathlib.Numerals.{add-one, one-add}
+use borrow.Author.Tests.{lt-ltb, le-ltb}
+use lib.ListN.{length, take, drop, length-drop, drop_of_length-le}
+use lib.Seq.{drop-drop, take_all}
+use lib.Dec.{eqb}
+use Rattle.std.specs.List.{position}
+use Rattle.std.specs.Option.{unwrap_or}
+use Rattle.std.specs.Prelude.{Option}
+use Rattle.std.proofs.lemmas.List.Recursion.{is_position_or_len}
+use Rattle.std.proofs.lemmas.List.Sums.{prefix_len-le-length}
+use mathlib.Core.Bool.{not}
 use Rattle.laws.proofs.Counting.{split}
 use Rattle.lines.specs.Lines.{lf, line_length, after_line, after_lines, start_of, line_of}
 
@@ -16,21 +23,16 @@ use Rattle.lines.specs.Lines.{lf, line_length, after_line, after_lines, start_of
 pub rest_part : (text : List ℕ) (at : ℕ) → take (length text - at) (drop at text) ≡ drop at text
 rest_part text at = take_all (length text - at) (drop at text) (omega (arith, length-drop at text))
 
-module _ (text : List ℕ) (i : ℕ) where
-  -- the line that starts at an LF is empty
-  pub length_at : i < length text → get_or text i 0 ≡ lf → line_length (drop i text) ≡ 0
-  unfolding line_length
-  length_at h e = rw (drop-cons text i 0 h, eq-eqb (get_or text i 0) lf e)
-
-  -- any other byte is one of its line
-  pub length_past : i < length text → (get_or text i 0 ≡ lf → ⊥) → line_length (drop i text) ≡ line_length (drop (i + 1) text) + 1
-  unfolding line_length
-  length_past h e = rw (drop-cons text i 0 h, ne_eqb (get_or text i 0) lf e, add-one i) (sym (add-one (line_length (drop (suc i) text))))
-
-  -- and at the end there is none
-  pub length_end : length text ≤ i → line_length (drop i text) ≡ 0
-  unfolding line_length
-  length_end h = rw (drop_of_length-le text h)
+-- the first line ends at the first LF, and where there is none, with the text
+pub first_line : (text : List ℕ) (at : Option ℕ) → at ≡ position (λ b. eqb b lf) text → unwrap_or at (length text) ≡ line_length text
+unfolding line_length
+first_line text at e =
+    let same = is_position_or_len line_length (λ b. eqb b lf) refl (λ b bs. rw one-add) text in
+    let short = prefix_len-le-length (λ b. not (eqb b lf)) text in
+    rw e (elim (split (length text) (line_length text)) [
+      | inl a ↦ rw (← same, le-ltb (line_length text) (length text) a) (omega arith)
+      | inr a ↦ rw (← same, lt-ltb (line_length text) (length text) a)
+    ])
 
 -- a part that starts at a place is the text from its start on, also where the place is past the end
 pub drop_start : (text : List ℕ) (at : ℕ) → drop (start_of text (drop at text)) text ≡ drop at text

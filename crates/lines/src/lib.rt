@@ -19,14 +19,8 @@ fn line_end(text: &[u8], at: usize) -> usize
     ensures ended { result ≡ at + line_length (drop at text.now) }
     ensures within { result ≤ length text.now }
 {
-    let mut i: usize = at;
-    while i < text.len() {
-        if text[i] == LF {
-            return i;
-        }
-        i += 1;
-    }
-    i
+    let rest = &text[at..];
+    at + rest.iter().position(|&b| b == LF).unwrap_or(rest.len())
 }
 
 // Where the line after the one that starts at `at` starts, or the text's end. So for a place past
@@ -45,11 +39,7 @@ pub fn next_line(text: &[u8], at: usize) -> usize
 pub fn from(text: &[u8], at: usize) -> &[u8]
     ensures part { result.now ≡ drop at text.now }
 {
-    if at <= text.len() {
-        &text[at..]
-    } else {
-        &text[0..0]
-    }
+    text.get(at..).unwrap_or(&text[..0])
 }
 
 // Where the text after the first k lines starts. The search ends at the text's end: nothing is left
@@ -58,10 +48,11 @@ pub fn line_start(text: &[u8], k: usize) -> usize
     ensures start { result ≡ start_of text.now (after_lines k text.now) }
 {
     let mut at: usize = 0;
-    let mut i: usize = 0;
-    while i < k && at < text.len() {
+    for _ in 0..k {
+        if at == text.len() {
+            break;
+        }
         at = next_line(text, at);
-        i += 1;
     }
     at
 }
@@ -72,7 +63,7 @@ pub fn line(text: &[u8], k: usize) -> &[u8]
     ensures part { result.now ≡ line_of k text.now }
 {
     if k == 0 {
-        return &text[0..0];
+        return &text[..0];
     }
     let start = line_start(text, k - 1);
     let end = line_end(text, start);

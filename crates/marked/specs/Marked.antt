@@ -1,7 +1,7 @@
 -- The marked schedules (document 01, "Marked schedules"), and the table of them with their results.
 -- A contract cannot name a constant of the code, so the schedules A to K stand here too. Their results do not: those of the constant are
 -- proved to be what the definitions give.
-use Rattle.std.specs.Prelude.{ℕ, ◌≡◌, List, [], ◌∷◌, map, true, length, get_or, ltb}
+use Rattle.std.specs.Prelude.{ℕ, ◌≡◌, List, [], ◌∷◌, map, true, Option, IfSome, slice_get}
 use Rattle.sets.specs.Largest.{largest}
 use Rattle.member.specs.declared.Rule.TheVariants.{ZerosOnly, Quiet, RoundT, LastRound, NoRule}
 use Rattle.member.specs.declared.Reason.{Reason}
@@ -12,7 +12,6 @@ use Rattle.run.specs.Protocol.{fcwfa}
 use Rattle.run.specs.Report.{Report, report}
 use Rattle.run.specs.Vectors.{because, reasons_in}
 use Rattle.marked.specs.declared.Case.{Case}
-use Rattle.marked.specs.declared.CaseEntry.{CaseEntry}
 
 -- "n = 4, t = 3": with these votes, crash rounds and reaches
 abbrev pub marked : List ℕ → List ℕ → List ℕ → Schedule
@@ -115,26 +114,12 @@ marked_reasons =
 pub record MarkedReasons : Type 0 where
   pub given : map reasons_in schedules ≡ marked_reasons
 
--- what stands where there is no case
-abbrev pub no_case : Case
-no_case = record {
-  votes = all_zero;
-  crashes = all_zero;
-  reaches = all_zero;
-  decisions = all_zero;
-  rounds = all_zero;
-  f = 0;
-  first = 0;
-  last = 0;
-  messages = 0;
-}
-
--- entry k: found where the table has one
-abbrev pub case_entry : ℕ → CaseEntry
-case_entry k = record { found = ltb k (length cases); case = get_or cases k no_case }
+-- entry k, where the table has one
+abbrev pub case_entry : ℕ → Option Case
+case_entry k = slice_get cases k
 
 -- what `case_at` hands out for k
-pub record CaseAt (k : ℕ) (r : CaseEntry) : Type 0 where
+pub record CaseAt (k : ℕ) (r : Option Case) : Type 0 where
   pub entry : r ≡ case_entry k
-  pub accepted : r.found ≡ true → question (marked_schedule r.case) largest true ≡ 0
-  pub results : r.found ≡ true → report fcwfa (marked_schedule r.case) ≡ expected r.case
+  pub accepted : IfSome r (λ c. question (marked_schedule c) largest true ≡ 0)
+  pub results : IfSome r (λ c. report fcwfa (marked_schedule c) ≡ expected c)

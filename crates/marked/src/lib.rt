@@ -1,6 +1,6 @@
 // The marked schedules of document 01, A to K, with their results: a constant table of tables.
 //
-// `case_at` hands out entry k, counted from 0, or tells that there is none. The table is proved as a
+// `case_at` hands out entry k, counted from 0, where there is one. The table is proved as a
 // whole: its results are those that the definitions give.
 #![tactic(auto)]
 
@@ -21,14 +21,6 @@ pub struct Case {
     pub first: u8,
     pub last: u8,
     pub messages: u16,
-}
-
-// What is handed out: a case that was found, or a blank one. It is a struct since an enum cannot hold
-// tables.
-#[derive(Clone, Copy)]
-pub struct CaseEntry {
-    pub found: bool,
-    pub case: Case,
 }
 
 const CASES: [Case; 11] = [
@@ -166,18 +158,6 @@ const CASES: [Case; 11] = [
     },
 ];
 
-const NO_CASE: Case = Case {
-    votes: [0, 0, 0, 0],
-    crashes: [0, 0, 0, 0],
-    reaches: [0, 0, 0, 0],
-    decisions: [0, 0, 0, 0],
-    rounds: [0, 0, 0, 0],
-    f: 0,
-    first: 0,
-    last: 0,
-    messages: 0,
-};
-
 // The table of A to K: its contract is the statement that covers it.
 fn all_cases() -> [Case; 11]
     ensures marked { MarkedTable result }
@@ -186,19 +166,8 @@ fn all_cases() -> [Case; 11]
 }
 
 // Case k: 0 for A, 10 for K.
-pub fn case_at(k: usize) -> CaseEntry
+pub fn case_at(k: usize) -> Option<Case>
     ensures handed_out { CaseAt k result }
 {
-    if CASES.len() <= k {
-        return CaseEntry {
-            found: false,
-            case: NO_CASE,
-        };
-    }
-    let all = all_cases();
-    let case = all[k];
-    CaseEntry {
-        found: true,
-        case: case,
-    }
+    all_cases().get(k).copied()
 }

@@ -1,17 +1,15 @@
 -- Calls of a member with their answers, written from document 01 by hand, and the statement that covers them. Proved in proofs/Vectors.antt, by
 -- computing what the definitions give: `member_vectors : MemberVectors` and `answer_cases : (m : Member) (reason : Reason) → AnswerCases m reason`.
-use Rattle.std.specs.Prelude.{ℕ, ◌≡◌, List, [], ◌∷◌, map}
+use Rattle.std.specs.Prelude.{ℕ, ◌≡◌, List, [], ◌∷◌, map, Ok, Err}
 use Rattle.laws.specs.Answer.{Answer, accepted, refused}
+use Rattle.laws.specs.Question.{answer_is, answer_with_is}
+use Rattle.laws.specs.declared.question.Question.TheVariants.{OwnNumber, State, OwnCode, Crashes}
 use Rattle.member.specs.declared.Member.{Member}
 use Rattle.sets.specs.Largest.{largest}
-use Rattle.member.specs.declared.Opened.TheVariants as opened
-use Rattle.member.specs.declared.Said.TheVariants as said
-use Rattle.member.specs.declared.Heard.TheVariants as heard
 use Rattle.member.specs.declared.Rule.{Rule}
 use Rattle.member.specs.declared.Rule.TheVariants.{Told, ZerosOnly, Quiet, RoundT, LastRound, NoRule}
 use Rattle.member.specs.declared.Reason.{Reason}
-use Rattle.member.specs.declared.Explained.TheVariants as explained
-use Rattle.member.specs.Answers.{opened_is, open_answer, said_is, say_answer, heard_is, hear_answer, explained_is, explain_answer}
+use Rattle.member.specs.Answers.{open_answer, say_answer, hear_answer, explain_answer}
 
 -- "The state is n, t, own number, the round to play next, the estimate (0 or 1), and the decided round (0 while undecided).", and the silent set
 abbrev pub state : ℕ → ℕ → ℕ → ℕ → ℕ → ℕ → ℕ → Member
@@ -247,13 +245,13 @@ pub record MemberVectors : Type 0 where
   pub heard : map (λ h. hear_answer largest h.member h.row) hearings ≡ map (λ h. h.answer) hearings
   pub explained : map (λ e. explain_answer largest e.member e.row) explanations ≡ map (λ e. e.answer) explanations
 
--- What each case of the answers' enums stands for: a refusal holds document 01's number, an acceptance the state, the code or the reason.
+-- What each case of an answer stands for: a refusal holds document 01's number, an acceptance the state, the code or the reason.
 pub record AnswerCases (m : Member) (reason : Reason) : Type 0 where
-  pub started : opened_is (opened.Started m) ≡ accepted m
-  pub not_opened : opened_is (opened.Refused 10) ≡ refused 10 tt
-  pub spoken : said_is (said.Code 4) ≡ accepted 4
-  pub not_said : said_is (said.Refused 11) ≡ refused 11 tt
-  pub moved : heard_is (heard.Moved m) ≡ accepted m
-  pub not_heard : heard_is (heard.Refused 15 m) ≡ refused 15 m
-  pub why : explained_is (explained.Because reason) ≡ accepted reason
-  pub not_explained : explained_is (explained.Refused 7) ≡ refused 7 tt
+  pub started : answer_is (Ok m) ≡ accepted m
+  pub not_opened : answer_is {A = Member} (Err OwnNumber) ≡ refused 10 tt
+  pub spoken : answer_is {A = ℕ} (Ok 4) ≡ accepted 4
+  pub not_said : answer_is {A = ℕ} (Err State) ≡ refused 11 tt
+  pub moved : answer_with_is {A = Member} {B = Member} (Ok m) ≡ accepted m
+  pub not_heard : answer_with_is {A = Member} (Err (record { question = OwnCode; back = m })) ≡ refused 15 m
+  pub why : answer_is (Ok reason) ≡ accepted reason
+  pub not_explained : answer_is {A = Reason} (Err Crashes) ≡ refused 7 tt

@@ -10,12 +10,15 @@
 #![tactic(auto)]
 
 mod limits;
+mod nobody;
 mod state;
 
 ghost use Rattle.std.specs.Prelude.{◌≡◌};
+ghost use Rattle.laws.specs.Question.{answer_is};
 ghost use Rattle.sets.specs.Largest.{largest};
-ghost use Rattle.member.specs.Answers.{opened_is, open_answer, said_is, say_answer};
+ghost use Rattle.member.specs.Answers.{open_answer, say_answer};
 
+use laws::Question;
 pub use limits::size_question;
 use sets::Set;
 pub use state::{code, is_stopped};
@@ -57,27 +60,6 @@ pub enum Rule {
     NoRule,
 }
 
-// The opened state, or the number of the first question whose answer is no.
-#[derive(Clone, Copy)]
-pub enum Opened {
-    Started(Member),
-    Refused(u8),
-}
-
-// The code that the member says, or the number.
-#[derive(Clone, Copy)]
-pub enum Said {
-    Code(u8),
-    Refused(u8),
-}
-
-// The state after the row, or the number and the state given.
-#[derive(Clone, Copy)]
-pub enum Heard {
-    Moved(Member),
-    Refused(u8, Member),
-}
-
 // Why a member decides: the rule, and the number that goes with it. Without a decision the rule is none, and
 // the number that of the crash round, where one is known.
 #[derive(Clone, Copy)]
@@ -86,21 +68,12 @@ pub struct Reason {
     pub number: u8,
 }
 
-// The reason, or the number of the first question whose answer is no.
-#[derive(Clone, Copy)]
-pub enum Explained {
-    Because(Reason),
-    Refused(u8),
-}
-
-pub fn open(n: usize, t: usize, id: usize, vote: u8) -> Opened
-    ensures answered { opened_is result ≡ open_answer largest n t id vote }
+// The state of a new member.
+pub fn open(n: usize, t: usize, id: usize, vote: u8) -> Result<Member, Question>
+    ensures answered { answer_is result ≡ open_answer largest n t id vote }
 {
-    let question = limits::open_question(n, t, id, vote);
-    if question != 0 {
-        return Opened::Refused(question);
-    }
-    Opened::Started(Member {
+    limits::open_question(n, t, id, vote)?;
+    Ok(Member {
         n: n as u8,
         t: t as u8,
         id: id as u8,
@@ -111,11 +84,12 @@ pub fn open(n: usize, t: usize, id: usize, vote: u8) -> Opened
     })
 }
 
-pub fn say(m: Member) -> Said
-    ensures answered { said_is result ≡ say_answer largest m }
+// The code that the member says in the round to come.
+pub fn say(m: Member) -> Result<u8, Question>
+    ensures answered { answer_is result ≡ say_answer largest m }
 {
     if !state::is_in_range(m) {
-        return Said::Refused(11);
+        return Err(Question::State);
     }
-    Said::Code(state::code(m) as u8)
+    Ok(state::code(m) as u8)
 }

@@ -1,38 +1,36 @@
 // The limits of n, t, own number and vote.
 ghost use Rattle.std.specs.Prelude.{◌≡◌};
+ghost use Rattle.laws.specs.Question.{comes_to};
 ghost use Rattle.sets.specs.Largest.{largest};
 ghost use Rattle.member.specs.Opening.{size_questions, open_question};
 
-use laws::is_within;
+use laws::{Question, is_within};
 use sets::WIDTH;
 
-// The number of the first question about n and t whose answer is no, or 0.
-pub fn size_question(n: usize, t: usize) -> u8
-    ensures asked { result ≡ size_questions largest n t 0 }
+// The questions about n and t.
+pub fn size_question(n: usize, t: usize) -> Result<(), Question>
+    ensures asked { comes_to result ≡ size_questions largest n t 0 }
 {
     if !is_within(4, n, WIDTH) {
-        return 1;
+        return Err(Question::Size);
     }
     let below = n - 1;
     if !is_within(3, t, below) {
-        return 2;
+        return Err(Question::Crashable);
     }
-    0
+    Ok(())
 }
 
-// The number of the first question of opening whose answer is no, or 0.
-pub fn open_question(n: usize, t: usize, id: usize, vote: u8) -> u8
-    ensures asked { result ≡ open_question largest n t id vote }
+// The questions of opening.
+pub fn open_question(n: usize, t: usize, id: usize, vote: u8) -> Result<(), Question>
+    ensures asked { comes_to result ≡ open_question largest n t id vote }
 {
-    let sizes = size_question(n, t);
-    if sizes != 0 {
-        return sizes;
-    }
+    size_question(n, t)?;
     if !is_within(1, id, n) {
-        return 10;
+        return Err(Question::OwnNumber);
     }
     if 1 < vote {
-        return 4;
+        return Err(Question::Vote);
     }
-    0
+    Ok(())
 }

@@ -13,7 +13,7 @@ use sets::is_of_others;
 fn is_in_limits(m: Member) -> bool
     ensures tested { result ≡ in_limits largest m }
 {
-    open_question(m.n as usize, m.t as usize, m.id as usize, m.estimate) == 0
+    open_question(m.n as usize, m.t as usize, m.id as usize, m.estimate).is_ok()
 }
 
 // Whether the round and the decided round fit together.

@@ -7,6 +7,7 @@ use lib.ListN.{length, drop, replicate, length-drop, length-replicate, get_or-re
 use lib.Seq.{get_or-drop, ext_get_or}
 use Rattle.buffer.specs.Buffer.{Writes}
 use Rattle.buffer.proofs.Written.{written_front}
+use Rattle.output.specs.declared.Output.{Output}
 use Rattle.output.specs.Answers.{zeros, output_size, output_is}
 
 -- what is left of a list of one thing
@@ -29,3 +30,7 @@ written_output blank buffer next written blanks w fits =
     w.bytes ∙ front.bytes ∙ ap (λ (l : List ℕ). written ++ l) (ap (drop (length written)) blanks ∙ rest_alike _ output_size (length written) fits) in
     let place : next ≡ length written = w.place ∙ front.place in
     (ap₂ (λ (bytes : List ℕ) (length : ℕ). record { bytes = bytes; length = length }) bytes place, omega arith)
+
+-- the bytes that a writer was lent are what it has written into them
+pub lent_back : {bytes buffer : List ℕ} → bytes ≡ buffer → (next : ℕ) → ◌≡◌ {A = Output} (record { bytes = bytes; length = next }) (record { bytes = buffer; length = next })
+lent_back e next = ap (λ (b : List ℕ). record { bytes = b; length = next }) e

@@ -14,7 +14,7 @@ use Rattle.run.specs.Report.{Report}
 use Rattle.text.specs.Reading.{longest}
 use Rattle.text.specs.Output.{counts_line, decision_line, decision_lines, report_text, outcome_text, rule_word, number_shown, reason_line, reasons_text, refusal_text}
 use Rattle.output.specs.Answers.{output_size}
-use Rattle.text.proofs.Sizes.{field_short, each_short}
+use Rattle.text.proofs.Decimals.{field_short, each_short}
 
 line_short : (i decision round : ℕ) → i < largest → round < 2 ^ 64 → length (decision_line i decision round) ≤ 44
 unfolding decision_line

@@ -16,14 +16,13 @@ ghost use Rattle.text.specs.Output.{output_of};
 ghost use Rattle.output.specs.Answers.{output_is, shown_of, OutputKeepsPromises};
 
 use forms::LONGEST;
-use reader::Reading;
-use sets::{zero_bytes, zero_sets};
+use sets::{Set, WIDTH, blank_table};
 
 // How many bytes an output has at most. The longest is the refusal of a line that is as long as a text
 // may be: 64 more are enough for the lines before it.
 pub const OUTPUT: usize = LONGEST + 64;
 
-// The output's bytes with zeros after them, and how many they are.
+// The output's bytes with zeros after them, and how many they are: without a heap no value is as long as its bytes.
 #[derive(Clone, Copy)]
 pub struct Output {
     pub bytes: [u8; OUTPUT],
@@ -31,7 +30,7 @@ pub struct Output {
 }
 
 // What is wanted of an accepted text: the program `bench` prints its report, `outcome` its outcome, and `why`
-// the reasons of its processes.
+// the reasons of its processes. The contracts name it, as no closure could be named in its place.
 #[derive(Clone, Copy)]
 pub enum Wanted {
     Report,
@@ -45,12 +44,11 @@ pub fn printed(text: &[u8], wanted: Wanted) -> Output
     ensures fits { IsPrefixLen result.length result.bytes }
     ensures promises { OutputKeepsPromises wanted text.now result }
 {
-    let mut votes = zero_bytes();
-    let mut crashes = zero_bytes();
-    let mut reaches = zero_sets();
-    let reading = reader::read(text, &mut votes, &mut crashes, &mut reaches);
-    match reading {
-        Reading::Read(n, t) => whole::of_tables(wanted, n, t, votes, crashes, reaches),
-        Reading::Refused(number, k) => whole::refused(text, number, k),
+    let mut votes: [u8; WIDTH] = blank_table();
+    let mut crashes: [u8; WIDTH] = blank_table();
+    let mut reaches: [Set; WIDTH] = blank_table();
+    match reader::read(text, &mut votes, &mut crashes, &mut reaches) {
+        Ok(sizes) => whole::of_tables(wanted, sizes, votes, crashes, reaches),
+        Err(refusal) => whole::refused(text, refusal),
     }
 }

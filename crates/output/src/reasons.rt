@@ -1,53 +1,31 @@
 // The lines of the reasons of an accepted schedule (document 02, K9): why each of its processes decided.
-ghost use Rattle.std.specs.Prelude.{◌≡◌, true, ℕ, ◌<◌};
-ghost use Rattle.sets.specs.Largest.{largest};
-ghost use Rattle.schedule.specs.Schedule.{schedule_of};
-ghost use Rattle.schedule.specs.Questions.{question};
+ghost use Rattle.std.specs.Prelude.{◌≡◌, ℕ, ◌<◌};
+ghost use Rattle.schedule.specs.Schedule.{schedule_lent};
 ghost use Rattle.run.specs.Why.{why_of};
 ghost use Rattle.text.specs.Output.{reason_lines};
-ghost use Rattle.buffer.specs.Buffer.{Writes};
+ghost use Rattle.buffer.specs.Puts.{Puts};
 
+use acceptance::Accepted;
+use buffer::Writer;
 use explanation::explain;
-use member::{Explained, Reason, Rule};
+use member::Reason;
 use report::put_reason;
-use sets::Set;
 
-// Why the process at place i decided.
-fn reason_of(n: usize, t: usize, votes: &[u8], crashes: &[u8], reaches: &[Set], i: usize) -> Reason
-    requires accepted { question (schedule_of n t votes.now crashes.now reaches.now) largest true ≡ 0 }
-    requires process { i < n }
-    ensures reason { result ≡ why_of (schedule_of n t votes.now crashes.now reaches.now) i }
+// Why the process at place i decided: an accepted schedule is not refused, and neither is the number of one of its
+// processes.
+fn reason_of(schedule: &Accepted, i: usize) -> Reason
+    requires process { i < schedule.now.tables.n }
+    ensures reason { result ≡ why_of (schedule_lent schedule.now.tables) i }
 {
-    let answer = explain(n, t, votes, crashes, reaches, i + 1);
-    let Explained::Because(why) = answer else {
-        return Reason {
-            rule: Rule::NoRule,
-            number: 0,
-        };
-    };
-    why
+    explain(&schedule.tables, i + 1).unwrap()
 }
 
-// Writes the lines of all processes in order, from place `at` on. Each number in them fits a byte.
-pub fn put_reasons(
-    bytes: &mut [u8],
-    at: usize,
-    n: usize,
-    t: usize,
-    votes: &[u8],
-    crashes: &[u8],
-    reaches: &[Set],
-) -> usize
-    requires accepted { question (schedule_of n t votes.now crashes.now reaches.now) largest true ≡ 0 }
-    ensures written { Writes bytes.old at bytes.new result (reason_lines n (why_of (schedule_of n t votes.now crashes.now reaches.now))) }
-    ensures small { (i : ℕ) → i < n → (why_of (schedule_of n t votes.now crashes.now reaches.now) i).number < 256 }
+// Writes the lines of all processes in order. Each number in them fits a byte.
+pub fn put_reasons(out: &mut Writer, schedule: &Accepted)
+    ensures written { Puts out.old out.new (let s = schedule_lent schedule.now.tables in reason_lines s.n (why_of s)) }
+    ensures small { let s = schedule_lent schedule.now.tables in (i : ℕ) → i < s.n → (why_of s i).number < 256 }
 {
-    let mut next = at;
-    let mut i: usize = 0;
-    while i < n {
-        let why = reason_of(n, t, votes, crashes, reaches, i);
-        next = put_reason(bytes, next, i + 1, why);
-        i += 1;
+    for i in 0..schedule.tables.n {
+        put_reason(out, i + 1, reason_of(schedule, i));
     }
-    next
 }

@@ -3,14 +3,15 @@
 use mathlib.Core.Path.{◌≡◌, sym, ap, ◌∙◌}
 use mathlib.Core.Logic.{◌≢◌}
 use mathlib.Core.List.{List}
-use mathlib.Core.Option.{some, none}
+use Rattle.std.specs.Prelude.{Some, None}
 use Prim.Native.Nat.{ℕ, ◌+◌, ◌<◌}
 use borrow.Author.Tests.{eq-eqb, ne_eqb}
 use Rattle.laws.specs.Answer.{ask, accepted, refused, answer}
 use Rattle.laws.proofs.Lists.{get_d_tabulate}
 use Rattle.lines.specs.Lines.{after_lines}
 use Rattle.schedule.specs.Questions.{entry_question, process_question}
-use Rattle.text.specs.Forms.{Entry, entry_at}
+use Rattle.text.specs.declared.Entry.{Entry}
+use Rattle.text.specs.Forms.{entry_at}
 use Rattle.text.specs.Reading.{on_line, sizes_in, entry_in, schedule_in, entry_questions}
 use Rattle.forms.specs.Answers.{value_of}
 use Rattle.forms.proofs.LineForms.{not_found, is_found_lem, found_value}
@@ -19,11 +20,11 @@ abbrev no_entry : Entry
 no_entry = record { vote = 0; crash = 0; reach = 0 }
 
 module _ (text : List ℕ) (i : ℕ) where
-  pub line_wrong : none ≡ value_of (entry_at (sizes_in text).n i (after_lines (i + 3) text)) → refused 9 (i + 4) ≡ entry_questions text i
+  pub line_wrong : None ≡ value_of (entry_at (sizes_in text).n i (after_lines (i + 3) text)) → refused 9 (i + 4) ≡ entry_questions text i
   unfolding entry_questions on_line answer ask
   line_wrong e = rw (not_found (entry_at (sizes_in text).n i (after_lines (i + 3) text)) e)
 
-  module _ (entry : Entry) (e : some entry ≡ value_of (entry_at (sizes_in text).n i (after_lines (i + 3) text))) where
+  module _ (entry : Entry) (e : Some entry ≡ value_of (entry_at (sizes_in text).n i (after_lines (i + 3) text))) where
     pub entry_is : entry ≡ entry_in text i
     entry_is = found_value no_entry (entry_at (sizes_in text).n i (after_lines (i + 3) text)) e
 

@@ -13,7 +13,7 @@ use Rattle.laws.proofs.Answer.{value_or, not_accepted, and_next_passes, and_next
 use Rattle.laws.proofs.Lists.{length_tabulate}
 use Rattle.schedule.specs.Schedule.{Schedule, schedule_of}
 use Rattle.schedule.specs.Questions.{tables_of}
-use Rattle.text.specs.Forms.{Sizes}
+use Rattle.text.specs.declared.Sizes.{Sizes}
 use Rattle.text.specs.Reading.{sizes_in, schedule_in, text_questions, text_answer}
 use Rattle.text.proofs.Accepted.{line_numbered, numbered}
 use Rattle.reader.specs.Answers.{given_or, filled, read_questions, read_answer, table_after, votes_after, crashes_after, reaches_after}

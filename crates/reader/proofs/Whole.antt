@@ -1,6 +1,6 @@
 -- The whole reading: the questions of the text are those of its head and those of the rest, and the tables are filled with the schedule of the text
 -- exactly where all of them are passed. Assumes nothing.
-use mathlib.Core.Path.{◌≡◌, refl, sym, ap, ap₂, ◌∙◌, subst}
+use mathlib.Core.Path.{◌≡◌, refl, sym, ap, ap₂, ◌∙◌}
 use mathlib.Core.Logic.{inl, inr}
 use mathlib.Core.List.{List, ◌++◌}
 use mathlib.Core.Bool.{true, false}
@@ -16,13 +16,11 @@ use Rattle.laws.proofs.Answer.{passed, value_or, not_accepted, and_next_passes, 
 use Rattle.laws.proofs.Test.{within_high}
 use Rattle.laws.proofs.Filled.{filled_take}
 use Rattle.schedule.specs.Questions.{tables_of}
-use Rattle.text.specs.Forms.{Sizes}
+use Rattle.text.specs.declared.Sizes.{Sizes}
 use Rattle.text.specs.Reading.{on_line, sizes_in, entry_in, schedule_in, entry_questions, text_questions, tail_questions, rest_questions, head_questions}
 use Rattle.text.proofs.Accepted.{line_passed}
-use Rattle.reader.specs.declared.Asked.{Asked}
-use Rattle.reader.specs.declared.Asked.TheVariants.{Passed}
 use Rattle.reader.specs.Answers.{given_or, filled, read_questions, read_answer, table_after}
-use Rattle.reader.specs.Parts.{Table, EntriesRead}
+use Rattle.reader.specs.Parts.{Table}
 
 -- What is given, and what is kept.
 module _ {A B : Type 0} {q : Answer (Unit {0}) B} (given kept : A) where
@@ -66,11 +64,6 @@ module _ (text : List ℕ) (n t : ℕ) (en : (sizes_in text).n ≡ n) (et : (siz
   pub read_reaches : (own : List ℕ) → n ≤ largest → Table n own (λ i. (entry_in text i).reach) → take n own ≡ (schedule_in text).reaches
   unfolding schedule_in
   read_reaches own l h = filled_take l h ∙ ap (λ (m : ℕ). tabulate m (λ i. (entry_in text i).reach)) (sym en)
-
--- what was read, where the questions of the lines are passed
-pub entries : (r : Asked) (text : List ℕ) (n : ℕ) (votes crashes reaches : List ℕ) → r ≡ Passed → EntriesRead r text n votes crashes reaches
-    → EntriesRead Passed text n votes crashes reaches
-entries r text n votes crashes reaches e h = subst (λ (x : Asked). EntriesRead x text n votes crashes reaches) e h
 
 -- The head's questions, with the sizes as their answer.
 module _ (text : List ℕ) (limit most : ℕ) where

@@ -1,17 +1,12 @@
 -- What `read` answers, and what the three lent tables hold after the call.
-use Rattle.std.specs.Prelude.{ℕ, ◌≡◌, List, ◌++◌, length, drop}
+use Rattle.std.specs.Prelude.{ℕ, ◌≡◌, List, ◌++◌, length, drop, Result}
 use Rattle.laws.specs.Answer.{ask, Answer, accepted, refused, and_next}
+use Rattle.laws.specs.declared.question.Refused.{Refused}
+use Rattle.laws.specs.Question.{answer_with_is}
 use Rattle.sets.specs.Largest.{largest}
 use Rattle.schedule.specs.Questions.{tables_of}
-use Rattle.text.specs.Forms.{Sizes}
+use Rattle.text.specs.declared.Sizes.{Sizes}
 use Rattle.text.specs.Reading.{longest, on_line, sizes_in, schedule_in, text_questions}
-use Rattle.reader.specs.declared.Reading.{Reading}
-use Rattle.reader.specs.declared.Reading.TheVariants.{Read, Refused}
-
--- for each case of the answer's enum document 01's number and values: a refusal gives its number and the line's
-abbrev pub reading_is : Reading → Answer Sizes ℕ
-reading_is (Read n t) = accepted (record { n = n; t = t })
-reading_is (Refused number line) = refused number line
 
 -- what is given if every question is answered by yes, or else what is kept
 abbrev pub given_or : {A B : Type 0} → Answer (Unit {0}) B → A → A → A
@@ -46,8 +41,8 @@ module _ (limit most : ℕ) (text votes crashes reaches : List ℕ) where
   reaches_after = table_after (schedule_in text).reaches reaches
 
 -- What the call promises: of its answer, and of the three tables after it.
-pub record Reads (text votes crashes reaches : List ℕ) (r : Reading) (votes_now crashes_now reaches_now : List ℕ) : Type 0 where
-  pub answered : reading_is r ≡ read_answer largest longest text votes crashes reaches
+pub record Reads (text votes crashes reaches : List ℕ) (r : Result Sizes (Refused ℕ)) (votes_now crashes_now reaches_now : List ℕ) : Type 0 where
+  pub answered : answer_with_is r ≡ read_answer largest longest text votes crashes reaches
   pub votes_read : votes_now ≡ votes_after largest longest text votes crashes reaches
   pub crashes_read : crashes_now ≡ crashes_after largest longest text votes crashes reaches
   pub reaches_read : reaches_now ≡ reaches_after largest longest text votes crashes reaches

@@ -1,30 +1,24 @@
 -- What the parts of a reading answer, and what they leave in the tables. Only this crate's own functions cite it.
-use Rattle.std.specs.Prelude.{ℕ, ◌≡◌, List, get_or}
-use Rattle.laws.specs.Answer.{Answer, accepted, refused}
+use Rattle.std.specs.Prelude.{ℕ, ◌≡◌, List, get_or, Result}
+use Rattle.laws.specs.declared.question.Refused.{Refused}
+use Rattle.laws.specs.Question.{answer_with_is}
 use Rattle.laws.specs.Filled.{Filled, Overwritten}
 use Rattle.sets.specs.Largest.{largest}
 use Rattle.text.specs.Reading.{entry_in, schedule_in, rest_questions}
 use Rattle.reader.specs.Answers.{given_or, filled}
-use Rattle.reader.specs.declared.Asked.{Asked}
-use Rattle.reader.specs.declared.Asked.TheVariants.{Passed, Refused}
-
-abbrev pub asked_is : Asked → Answer (Unit {0}) ℕ
-asked_is Passed = accepted tt
-asked_is (Refused number line) = refused number line
 
 -- a lent table whose first n entries are those that f gives
 abbrev pub Table : ℕ → List ℕ → (ℕ → ℕ) → Type 0
 Table n table f = Filled 0 largest n table f
 
--- where the questions of all n lines are passed, three tables hold what stands there
-abbrev pub EntriesRead : Asked → List ℕ → ℕ → List ℕ → List ℕ → List ℕ → Type 0
-EntriesRead (Refused number line) text n votes crashes reaches = Unit {0}
-EntriesRead Passed text n votes crashes reaches =
+-- three tables hold what stands on the n lines
+abbrev pub EntriesRead : List ℕ → ℕ → List ℕ → List ℕ → List ℕ → Type 0
+EntriesRead text n votes crashes reaches =
     Table n votes (λ i. (entry_in text i).vote) × Table n crashes (λ i. (entry_in text i).crash) × Table n reaches (λ i. (entry_in text i).reach)
 
 -- What is read after line 3: the answer, and each table after it, filled or as it was lent.
-pub record ReadsRest (text votes crashes reaches : List ℕ) (r : Asked) (votes_now crashes_now reaches_now : List ℕ) : Type 0 where
-  pub asked : asked_is r ≡ rest_questions text
+pub record ReadsRest (text votes crashes reaches : List ℕ) (r : Result (Unit {0}) (Refused ℕ)) (votes_now crashes_now reaches_now : List ℕ) : Type 0 where
+  pub asked : answer_with_is r ≡ rest_questions text
   pub votes_read : votes_now ≡ given_or (rest_questions text) (filled (schedule_in text).votes votes) votes
   pub crashes_read : crashes_now ≡ given_or (rest_questions text) (filled (schedule_in text).crashes crashes) crashes
   pub reaches_read : reaches_now ≡ given_or (rest_questions text) (filled (schedule_in text).reaches reaches) reaches

@@ -6,7 +6,7 @@ use Rattle.laws.specs.Quoted.{quoted}
 use Rattle.laws.specs.Answer.{Answer, accepted, refused}
 use Rattle.sets.specs.Largest.{largest}
 use Rattle.schedule.specs.Four.{four, all_one}
-use Rattle.text.specs.Forms.{Sizes}
+use Rattle.text.specs.declared.Sizes.{Sizes}
 use Rattle.text.specs.Reading.{longest}
 use Rattle.reader.specs.Answers.{read_answer, votes_after, crashes_after, reaches_after}
 

@@ -1,59 +1,66 @@
 // The parts of a text after its head in order: the lines of the processes, and what is asked after them.
-ghost use Rattle.std.specs.Prelude.{◌≡◌, ◌≤◌, length};
+ghost use Rattle.std.specs.Prelude.{◌≡◌, ◌≤◌, length, OnOk};
 ghost use Rattle.sets.specs.Largest.{largest};
 ghost use Rattle.laws.specs.Answer.{next_each};
+ghost use Rattle.laws.specs.Question.{answer_with_is};
 ghost use Rattle.text.specs.Reading.{sizes_in, entry_questions, tail_questions};
-ghost use Rattle.reader.specs.Parts.{asked_is, EntriesRead};
+ghost use Rattle.reader.specs.Parts.{EntriesRead};
 
-use crate::Asked;
-use forms::{ProcessLine, read_process};
+use acceptance::{crash_count, process_question};
+use forms::{RefusedLine, read_process};
+use laws::{Question, refused_by};
 use lines::{from, line_start, next_line};
 use sets::Set;
+use text::Sizes;
 
 // The questions of the lines of the processes, in order, and what stands there.
 pub fn read_processes(
     text: &[u8],
-    n: usize,
-    t: usize,
+    sizes: Sizes,
     votes: &mut [u8],
     crashes: &mut [u8],
     reaches: &mut [Set],
-) -> Asked
-    requires sizes { (n ≤ largest) × ((sizes_in text.now).n ≡ n) × ((sizes_in text.now).t ≡ t) }
+) -> Result<(), RefusedLine>
+    requires sizes { (sizes.n ≤ largest) × (sizes_in text.now ≡ sizes) }
     requires long { (length votes.old ≡ largest) × (length crashes.old ≡ largest) × (length reaches.old ≡ largest) }
-    ensures asked { asked_is result ≡ next_each n (entry_questions text.now) }
-    ensures entries { EntriesRead result text.now n votes.new crashes.new reaches.new }
+    ensures asked { answer_with_is result ≡ next_each sizes.n (entry_questions text.now) }
+    ensures entries { OnOk result (EntriesRead text.now sizes.n votes.new crashes.new reaches.new) }
 {
     let mut at = line_start(text, 3);
-    let mut i: usize = 0;
-    while i < n {
-        let ProcessLine::Process(vote, crash, reach) = read_process(from(text, at), n, i) else {
-            return Asked::Refused(9, i + 4);
+    for i in 0..sizes.n {
+        let Some(entry) = read_process(from(text, at), sizes.n, i) else {
+            return Err(refused_by(Question::LineForm, i + 4));
         };
-        let number = acceptance::process_question(n, t, i, vote, crash, reach);
-        if number != 0 {
-            return Asked::Refused(number, i + 4);
+        if let Err(question) = process_question(
+            sizes.n,
+            sizes.t,
+            i,
+            entry.vote,
+            entry.crash,
+            entry.reach,
+        ) {
+            return Err(refused_by(question, i + 4));
         }
-        votes[i] = vote;
-        crashes[i] = crash;
-        reaches[i] = reach;
+        votes[i] = entry.vote;
+        crashes[i] = entry.crash;
+        reaches[i] = entry.reach;
         at = next_line(text, at);
-        i += 1;
     }
-    Asked::Passed
+    Ok(())
 }
 
 // What is asked after the last line: that nothing follows, and that at most t processes crash.
-pub fn read_tail(text: &[u8], n: usize, t: usize, crashes: &[u8]) -> Asked
-    requires size { (n ≤ largest) × (length crashes.now ≡ n) }
-    ensures asked { asked_is result ≡ tail_questions text.now n t crashes.now }
+pub fn read_tail(text: &[u8], sizes: Sizes, crashes: &[u8]) -> Result<(), RefusedLine>
+    requires size { (sizes.n ≤ largest) × (length crashes.now ≡ sizes.n) }
+    ensures asked { answer_with_is result ≡ tail_questions text.now sizes.n sizes.t crashes.now }
 {
+    let n = sizes.n;
     if line_start(text, n + 3) < text.len() {
-        return Asked::Refused(9, n + 4);
+        return Err(refused_by(Question::LineForm, n + 4));
     }
-    let counted = acceptance::crash_count(t, crashes);
-    if t < counted.count {
-        return Asked::Refused(7, n + 3);
+    let counted = crash_count(sizes.t, crashes);
+    if sizes.t < counted.count {
+        return Err(refused_by(Question::Crashes, n + 3));
     }
-    Asked::Passed
+    Ok(())
 }

@@ -5,41 +5,36 @@ ghost use Rattle.text.specs.Reading.{sizes_in};
 ghost use Rattle.reader.specs.Parts.{ReadsRest};
 
 use crate::parts::{read_processes, read_tail};
-use crate::{Asked, tables};
-use sets::{Set, zero_bytes, zero_sets};
+use crate::tables;
+use forms::RefusedLine;
+use sets::{Set, WIDTH, blank_table};
+use text::Sizes;
 
 // Asks the questions after line 3, and fills the tables if each is answered by yes. Number 7 is known
 // only after the last line, so the lines are read into arrays of the function's own.
 pub fn read_rest(
     text: &[u8],
-    n: usize,
-    t: usize,
+    sizes: Sizes,
     votes: &mut [u8],
     crashes: &mut [u8],
     reaches: &mut [Set],
-) -> Asked
-    requires sizes { (n ≤ largest) × ((sizes_in text.now).n ≡ n) × ((sizes_in text.now).t ≡ t) }
+) -> Result<(), RefusedLine>
+    requires sizes { (sizes.n ≤ largest) × (sizes_in text.now ≡ sizes) }
     requires long { (length votes.old ≡ largest) × (length crashes.old ≡ largest) × (length reaches.old ≡ largest) }
     ensures read { ReadsRest text.now votes.old crashes.old reaches.old result votes.new crashes.new reaches.new }
 {
-    let mut own_votes = zero_bytes();
-    let mut own_crashes = zero_bytes();
-    let mut own_reaches = zero_sets();
-    let processes = read_processes(
+    let mut own_votes: [u8; WIDTH] = blank_table();
+    let mut own_crashes: [u8; WIDTH] = blank_table();
+    let mut own_reaches: [Set; WIDTH] = blank_table();
+    read_processes(
         text,
-        n,
-        t,
+        sizes,
         &mut own_votes,
         &mut own_crashes,
         &mut own_reaches,
-    );
-    let Asked::Passed = processes else {
-        return processes;
-    };
-    let tail = read_tail(text, n, t, &own_crashes[..n]);
-    let Asked::Passed = tail else {
-        return tail;
-    };
+    )?;
+    let n = sizes.n;
+    read_tail(text, sizes, &own_crashes[..n])?;
     tables::fill(
         n,
         own_votes,
@@ -49,5 +44,5 @@ pub fn read_rest(
         crashes,
         reaches,
     );
-    Asked::Passed
+    Ok(())
 }

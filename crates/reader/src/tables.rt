@@ -19,11 +19,7 @@ pub fn fill(
     requires long { (length votes.old ≡ largest) × (length crashes.old ≡ largest) × (length reaches.old ≡ largest) }
     ensures filled { Fills n voted crashed reached votes.old crashes.old reaches.old votes.new crashes.new reaches.new }
 {
-    let mut i: usize = 0;
-    while i < n {
-        votes[i] = voted[i];
-        crashes[i] = crashed[i];
-        reaches[i] = reached[i];
-        i += 1;
-    }
+    votes[..n].copy_from_slice(&voted[..n]);
+    crashes[..n].copy_from_slice(&crashed[..n]);
+    reaches[..n].copy_from_slice(&reached[..n]);
 }

@@ -1,16 +1,17 @@
-// The refused schedules of document 01, "Marked schedules", with their numbers: a constant table of tables.
+// The refused schedules of document 01, "Marked schedules", with the questions that refuse them: a constant
+// table of tables.
 //
-// `refusal_at` hands out entry k, counted from 0, or tells that there is none. The table is proved as a
-// whole: its numbers are those that the definitions give.
+// `refusal_at` hands out entry k, counted from 0, where there is one. The table is proved as a whole: the
+// questions have the numbers that the definitions give.
 #![tactic(auto)]
 
-ghost use Rattle.std.specs.Prelude.{◌≡◌};
-ghost use Rattle.refusals.specs.Refused.{refusals, RefusalAt};
+ghost use Rattle.refusals.specs.Refused.{RefusedTable, RefusalAt};
 
+use laws::Question;
 use sets::Set;
 
-// A schedule of n processes, in the first n places of its tables, and the number that it is refused
-// with, 0 if it passes.
+// A schedule of n processes, in the first n places of its tables, and what its questions answer: all but one
+// of the table are refused.
 #[derive(Clone, Copy)]
 pub struct Refusal {
     pub n: usize,
@@ -18,15 +19,7 @@ pub struct Refusal {
     pub votes: [u8; 4],
     pub crashes: [u8; 4],
     pub reaches: [Set; 4],
-    pub number: u8,
-}
-
-// What is handed out: a refused schedule that was found, or a blank one. It is a struct since an enum
-// cannot hold tables.
-#[derive(Clone, Copy)]
-pub struct RefusalEntry {
-    pub found: bool,
-    pub refusal: Refusal,
+    pub answer: Result<(), Question>,
 }
 
 const REFUSED: [Refusal; 6] = [
@@ -37,7 +30,7 @@ const REFUSED: [Refusal; 6] = [
         votes: [2, 1, 1, 0],
         crashes: [0, 0, 0, 0],
         reaches: [0, 0, 0, 0],
-        number: 1,
+        answer: Err(Question::Size),
     },
     // t = 4 at n = 4
     Refusal {
@@ -46,7 +39,7 @@ const REFUSED: [Refusal; 6] = [
         votes: [1, 1, 1, 1],
         crashes: [0, 0, 0, 0],
         reaches: [0, 0, 0, 0],
-        number: 2,
+        answer: Err(Question::Crashable),
     },
     // crash round 5
     Refusal {
@@ -55,7 +48,7 @@ const REFUSED: [Refusal; 6] = [
         votes: [1, 1, 1, 1],
         crashes: [5, 0, 0, 0],
         reaches: [0, 0, 0, 0],
-        number: 5,
+        answer: Err(Question::CrashRound),
     },
     // while 4 passes
     Refusal {
@@ -64,7 +57,7 @@ const REFUSED: [Refusal; 6] = [
         votes: [1, 1, 1, 1],
         crashes: [4, 0, 0, 0],
         reaches: [0, 0, 0, 0],
-        number: 0,
+        answer: Ok(()),
     },
     // 1: 1/1000
     Refusal {
@@ -73,7 +66,7 @@ const REFUSED: [Refusal; 6] = [
         votes: [1, 1, 1, 1],
         crashes: [1, 0, 0, 0],
         reaches: [1, 0, 0, 0],
-        number: 6,
+        answer: Err(Question::Reach),
     },
     // four crashes
     Refusal {
@@ -82,40 +75,20 @@ const REFUSED: [Refusal; 6] = [
         votes: [1, 1, 1, 1],
         crashes: [1, 1, 1, 1],
         reaches: [0, 0, 0, 0],
-        number: 7,
+        answer: Err(Question::Crashes),
     },
 ];
 
-const NO_REFUSAL: Refusal = Refusal {
-    n: 0,
-    t: 0,
-    votes: [0, 0, 0, 0],
-    crashes: [0, 0, 0, 0],
-    reaches: [0, 0, 0, 0],
-    number: 0,
-};
-
 // The table of the refused schedules, and the statement that covers it.
 fn all_refusals() -> [Refusal; 6]
-    ensures refused { result ≡ refusals }
+    ensures refused { RefusedTable result }
 {
     REFUSED
 }
 
 // Refused schedule k, in document 01's order.
-pub fn refusal_at(k: usize) -> RefusalEntry
+pub fn refusal_at(k: usize) -> Option<Refusal>
     ensures handed_out { RefusalAt k result }
 {
-    if REFUSED.len() <= k {
-        return RefusalEntry {
-            found: false,
-            refusal: NO_REFUSAL,
-        };
-    }
-    let all = all_refusals();
-    let refusal = all[k];
-    RefusalEntry {
-        found: true,
-        refusal: refusal,
-    }
+    all_refusals().get(k).copied()
 }

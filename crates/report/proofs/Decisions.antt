@@ -1,12 +1,16 @@
 -- Tables of decisions and outcomes, and what is written of them. Assumes nothing.
-use mathlib.Core.Path.{◌≡◌}
+use mathlib.Core.Path.{◌≡◌, sym}
+use mathlib.Core.Logic.{inl, inr}
 use mathlib.Core.List.{List, []}
-use mathlib.Core.Bool.{true, false}
-use Prim.Native.Nat.{ℕ, ◌≤◌, ◌<◌}
+use mathlib.Core.Bool.{Bool, true, false}
+use Prim.Native.Nat.{ℕ, ◌≤◌, ◌<◌, zero-le}
 use native.Mathlib.Omega.{arith}
 use borrow.Author.Tests.{eq-eqb, ne_eqb, eqb-true, leb-true, le-leb, lt-leb}
 use lib.ListN.{length, get_or}
 use lib.Dec.{leb}
+use Rattle.std.specs.Bool.{MatchBool}
+use Rattle.std.specs.List.{AllWithin, HoldsAt}
+use Rattle.laws.proofs.Test.{true_or_false}
 use Rattle.laws.proofs.Counting.{count_of_all, count_full}
 use Rattle.simulator.specs.declared.Counts.{Counts}
 use Rattle.simulator.specs.declared.Outcome.{Outcome}
@@ -25,6 +29,16 @@ pub all_decisions : (decisions : List ℕ) → ((i : ℕ) → i < length decisio
 unfolding are_decisions
 all_decisions decisions h =
     eq-eqb _ (length decisions) (count_of_all (length decisions) (λ i. leb (get_or decisions i 0) 2) (λ i l. le-leb (get_or decisions i 0) 2 (h i l)))
+
+-- a test that says yes where each entry is a decision, and no where one is not
+pub all_or_not : (decisions : List ℕ) (r : Bool) → MatchBool r (AllWithin (λ d. d ≤ 2) decisions 0 (length decisions)) ((k : ℕ) × (k < length decisions) × HoldsAt (λ d. 2 < d) decisions k)
+    → r ≡ are_decisions decisions
+all_or_not decisions true all = sym (all_decisions decisions (λ i l. all i 0 zero-le l))
+all_or_not decisions false (k, l, high) =
+    elim (true_or_false (are_decisions decisions)) [
+      | inl e ↦ absurd (let low = decisions_all decisions e k l in let over = high 0 in omega arith)
+      | inr e ↦ sym e
+    ]
 
 module _ (t : ℕ) (counts : Counts) (decisions rounds : List ℕ) where
   pub shown_all : length rounds ≡ length decisions → are_decisions decisions ≡ true → shown t counts decisions rounds ≡ report_text (length decisions) t (given_by counts decisions rounds)

@@ -12,17 +12,16 @@ mod reasons;
 ghost use Rattle.std.specs.Prelude.{◌≡◌, List, true, ℕ, ◌+◌, ◌^◌, ◌≤◌, ◌<◌, length};
 ghost use Rattle.simulator.specs.Answers.{given_by};
 ghost use Rattle.text.specs.Output.{decision_letter, decided_fields, decision_line, decision_lines, counts_line, report_text, refusal_text};
-ghost use Rattle.buffer.specs.Buffer.{Writes};
+ghost use Rattle.buffer.specs.Puts.{Puts};
 ghost use Rattle.report.specs.Shown.{are_decisions, shown, written_outcome};
 
-use buffer::{put, put_byte, put_field};
+use buffer::Writer;
 use fields::SPACE;
-use laws::bit;
 use lines::LF;
 pub use reasons::{put_reason, put_reasons_heading};
 use simulator::{Counts, Outcome};
 
-const DASH: u8 = 45;
+const DASH: u8 = b'-';
 
 // The letter of a decision that is 0 or 1, and `-` for 2, none.
 fn decision_letter(decision: u8) -> u8
@@ -32,130 +31,104 @@ fn decision_letter(decision: u8) -> u8
     if decision == 2 {
         return DASH;
     }
-    48 + decision
+    b'0' + decision
 }
 
 // Writes a decision and its round, at the end of a line.
-fn put_decided(bytes: &mut [u8], at: usize, decision: u8, round: u8) -> usize
+fn put_decided(out: &mut Writer, decision: u8, round: u8)
     requires one { decision ≤ 2 }
-    ensures written { Writes bytes.old at bytes.new result (decided_fields decision round) }
+    ensures written { Puts out.old out.new (decided_fields decision round) }
 {
-    let decided = put_byte(bytes, at, decision_letter(decision));
-    let space = put_byte(bytes, decided, SPACE);
-    put_field(bytes, space, round as usize, LF)
+    out.put_byte(decision_letter(decision));
+    out.put_byte(SPACE);
+    out.put_field(round as usize, LF);
 }
 
 // Writes the line of the process at place i.
-fn put_decision(bytes: &mut [u8], at: usize, i: usize, decision: u8, round: u8) -> usize
+fn put_decision(out: &mut Writer, i: usize, decision: u8, round: u8)
     requires small { (i + 1 < 2 ^ 64) × (decision ≤ 2) }
-    ensures written { Writes bytes.old at bytes.new result (decision_line i decision round) }
+    ensures written { Puts out.old out.new (decision_line i decision round) }
 {
-    let own = put_field(bytes, at, i + 1, SPACE);
-    put_decided(bytes, own, decision, round)
+    out.put_field(i + 1, SPACE);
+    put_decided(out, decision, round);
 }
 
 // Writes the lines of the processes in order.
-fn put_decisions(bytes: &mut [u8], at: usize, decisions: &[u8], decided: &[u8]) -> usize
+fn put_decisions(out: &mut Writer, decisions: &[u8], decided: &[u8])
     requires size { length decided.now ≡ length decisions.now }
     requires values { are_decisions decisions.now ≡ true }
-    ensures written { Writes bytes.old at bytes.new result (decision_lines (length decisions.now) decisions.now decided.now) }
+    ensures written { Puts out.old out.new (decision_lines (length decisions.now) decisions.now decided.now) }
 {
-    let mut next = at;
-    let mut i: usize = 0;
-    while i < decisions.len() {
-        next = put_decision(bytes, next, i, decisions[i], decided[i]);
-        i += 1;
+    for (i, (&decision, &round)) in decisions.iter().zip(decided).enumerate() {
+        put_decision(out, i, decision, round);
     }
-    next
 }
 
 // Writes the line of n, t and the counts.
-fn put_counts(bytes: &mut [u8], at: usize, n: usize, t: usize, counts: Counts) -> usize
-    ensures written { (decisions rounds : List ℕ) → Writes bytes.old at bytes.new result (counts_line n t (given_by counts decisions rounds)) }
+fn put_counts(out: &mut Writer, n: usize, t: usize, counts: Counts)
+    ensures written { (decisions rounds : List ℕ) → Puts out.old out.new (counts_line n t (given_by counts decisions rounds)) }
 {
-    let after_n = put_field(bytes, at, n, SPACE);
-    let after_t = put_field(bytes, after_n, t, SPACE);
-    let after_f = put_field(bytes, after_t, counts.f, SPACE);
-    let after_first = put_field(bytes, after_f, counts.first, SPACE);
-    let after_last = put_field(bytes, after_first, counts.last, SPACE);
-    put_field(bytes, after_last, counts.messages, LF)
+    out.put_field(n, SPACE);
+    out.put_field(t, SPACE);
+    out.put_field(counts.f, SPACE);
+    out.put_field(counts.first, SPACE);
+    out.put_field(counts.last, SPACE);
+    out.put_field(counts.messages, LF);
 }
 
 // Whether each of these is a decision: 0, 1 or 2 for none.
 fn are_decisions(decisions: &[u8]) -> bool
     ensures tested { result ≡ are_decisions decisions.now }
 {
-    let mut right: usize = 0;
-    let mut i: usize = 0;
-    while i < decisions.len() {
-        let decision = decisions[i];
-        right += bit(decision <= 2) as usize;
-        i += 1;
-    }
-    right == decisions.len()
+    decisions.iter().all(|&decision| decision <= 2)
 }
 
 // Writes the lines of the report of these counts and tables.
-fn put_lines(
-    bytes: &mut [u8],
-    at: usize,
-    t: usize,
-    counts: Counts,
-    decisions: &[u8],
-    decided: &[u8],
-) -> usize
+fn put_lines(out: &mut Writer, t: usize, counts: Counts, decisions: &[u8], decided: &[u8])
     requires size { length decided.now ≡ length decisions.now }
     requires values { are_decisions decisions.now ≡ true }
-    ensures written { Writes bytes.old at bytes.new result (report_text (length decisions.now) t (given_by counts decisions.now decided.now)) }
+    ensures written { Puts out.old out.new (report_text (length decisions.now) t (given_by counts decisions.now decided.now)) }
 {
-    let heading = put(bytes, at, b"n t f first last messages\n");
-    let values = put_counts(bytes, heading, decisions.len(), t, counts);
-    let names = put(bytes, values, b"id decision round\n");
-    put_decisions(bytes, names, decisions, decided)
+    out.put(b"n t f first last messages\n");
+    put_counts(out, decisions.len(), t, counts);
+    out.put(b"id decision round\n");
+    put_decisions(out, decisions, decided);
 }
 
-// Writes what the bench gives for a schedule of n processes that bears t crashes, from place `at` on:
-// `decisions` holds the decision of each process, 2 for none, and `decided` its round, 0 for none. Tables
-// that no run gives, of two lengths or with what is no decision, are not written.
-pub fn put_report(
-    bytes: &mut [u8],
-    at: usize,
-    t: usize,
-    counts: Counts,
-    decisions: &[u8],
-    decided: &[u8],
-) -> usize
-    ensures written { Writes bytes.old at bytes.new result (shown t counts decisions.now decided.now) }
+// Writes what the bench gives for a schedule of n processes that bears t crashes: `decisions` holds the
+// decision of each process, 2 for none, and `decided` its round, 0 for none. Tables that no run gives, of two
+// lengths or with what is no decision, are not written.
+pub fn put_report(out: &mut Writer, t: usize, counts: Counts, decisions: &[u8], decided: &[u8])
+    ensures written { Puts out.old out.new (shown t counts decisions.now decided.now) }
 {
     if decided.len() != decisions.len() {
-        return at;
+        return;
     }
     if !are_decisions(decisions) {
-        return at;
+        return;
     }
-    put_lines(bytes, at, t, counts, decisions, decided)
+    put_lines(out, t, counts, decisions, decided);
 }
 
-// Writes the two lines of an outcome from place `at` on. What is no decision is not written.
-pub fn put_outcome(bytes: &mut [u8], at: usize, outcome: Outcome) -> usize
-    ensures written { Writes bytes.old at bytes.new result (written_outcome outcome) }
+// Writes the two lines of an outcome. What is no decision is not written.
+pub fn put_outcome(out: &mut Writer, outcome: Outcome)
+    ensures written { Puts out.old out.new (written_outcome outcome) }
 {
     let decision = outcome.decision;
     if decision > 2 {
-        return at;
+        return;
     }
-    let heading = put(bytes, at, b"decision round\n");
-    put_decided(bytes, heading, decision, outcome.round)
+    out.put(b"decision round\n");
+    put_decided(out, decision, outcome.round);
 }
 
-// Writes the three lines of a refusal from place `at` on: its heading, the number and the line's number,
-// and the line.
-pub fn put_refusal(bytes: &mut [u8], at: usize, number: u8, k: usize, line: &[u8]) -> usize
-    ensures written { Writes bytes.old at bytes.new result (refusal_text number k line.now) }
+// Writes the three lines of a refusal: its heading, the number and the line's number, and the line.
+pub fn put_refusal(out: &mut Writer, number: u8, k: usize, line: &[u8])
+    ensures written { Puts out.old out.new (refusal_text number k line.now) }
 {
-    let heading = put(bytes, at, b"refused line\n");
-    let refused = put_field(bytes, heading, number as usize, SPACE);
-    let numbered = put_field(bytes, refused, k, LF);
-    let after_line = put(bytes, numbered, line);
-    put_byte(bytes, after_line, LF)
+    out.put(b"refused line\n");
+    out.put_field(number as usize, SPACE);
+    out.put_field(k, LF);
+    out.put(line);
+    out.put_byte(LF);
 }

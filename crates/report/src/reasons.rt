@@ -1,52 +1,52 @@
 // The lines of reasons (document 02, K9): why each process decided, or in which round it crashed.
 ghost use Rattle.text.specs.Output.{reasons_heading, rule_word, number_shown, reason_line};
-ghost use Rattle.buffer.specs.Buffer.{Writes};
+ghost use Rattle.buffer.specs.Puts.{Puts};
 
-use buffer::{put, put_byte, put_field};
+use buffer::Writer;
 use fields::SPACE;
 use lines::LF;
 use member::{Reason, Rule};
 
 // Writes the word for a rule.
-fn put_word(bytes: &mut [u8], at: usize, rule: Rule) -> usize
-    ensures written { Writes bytes.old at bytes.new result (rule_word rule) }
+fn put_word(out: &mut Writer, rule: Rule)
+    ensures written { Puts out.old out.new (rule_word rule) }
 {
     match rule {
-        Rule::Told => put(bytes, at, b"told"),
-        Rule::ZerosOnly => put(bytes, at, b"zeros"),
-        Rule::Quiet => put(bytes, at, b"quiet"),
-        Rule::RoundT => put(bytes, at, b"round-t"),
-        Rule::LastRound => put(bytes, at, b"last"),
-        Rule::NoRule => put(bytes, at, b"crashed"),
+        Rule::Told => out.put(b"told"),
+        Rule::ZerosOnly => out.put(b"zeros"),
+        Rule::Quiet => out.put(b"quiet"),
+        Rule::RoundT => out.put(b"round-t"),
+        Rule::LastRound => out.put(b"last"),
+        Rule::NoRule => out.put(b"crashed"),
     }
 }
 
 // Writes the number that goes with a rule, at the end of a line, and `-` for a rule that has none.
-fn put_number(bytes: &mut [u8], at: usize, rule: Rule, number: u8) -> usize
-    ensures written { Writes bytes.old at bytes.new result (number_shown rule number) }
+fn put_number(out: &mut Writer, rule: Rule, number: u8)
+    ensures written { Puts out.old out.new (number_shown rule number) }
 {
     match rule {
-        Rule::ZerosOnly | Rule::LastRound => put(bytes, at, b"-\n"),
+        Rule::ZerosOnly | Rule::LastRound => out.put(b"-\n"),
         Rule::Told | Rule::Quiet | Rule::RoundT | Rule::NoRule => {
-            put_field(bytes, at, number as usize, LF)
+            out.put_field(number as usize, LF)
         }
     }
 }
 
-// Writes the line of the process with this number from place `at` on.
-pub fn put_reason(bytes: &mut [u8], at: usize, id: usize, why: Reason) -> usize
-    ensures written { Writes bytes.old at bytes.new result (reason_line id why) }
+// Writes the line of the process with this number.
+pub fn put_reason(out: &mut Writer, id: usize, why: Reason)
+    ensures written { Puts out.old out.new (reason_line id why) }
 {
     let rule = why.rule;
-    let own = put_field(bytes, at, id, SPACE);
-    let word = put_word(bytes, own, rule);
-    let space = put_byte(bytes, word, SPACE);
-    put_number(bytes, space, rule, why.number)
+    out.put_field(id, SPACE);
+    put_word(out, rule);
+    out.put_byte(SPACE);
+    put_number(out, rule, why.number);
 }
 
 // Writes the line of names above them.
-pub fn put_reasons_heading(bytes: &mut [u8], at: usize) -> usize
-    ensures written { Writes bytes.old at bytes.new result reasons_heading }
+pub fn put_reasons_heading(out: &mut Writer)
+    ensures written { Puts out.old out.new reasons_heading }
 {
-    put(bytes, at, b"id rule number\n")
+    out.put(b"id rule number\n");
 }

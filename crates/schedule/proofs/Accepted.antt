@@ -164,3 +164,17 @@ module _ (s : Schedule) where
           ask_each_passes s.n (process_question s) (λ i l. process_rules_question i (a.rules.process i l)),
           le-leb (crash_count s) s.t a.rules.few,
         )
+
+-- a schedule that a call with answer tables accepts is accepted by one that takes none
+pub accepted_alone : (s : Schedule) (limit : ℕ) (answers : Bool) → question s limit answers ≡ 0 → question s limit true ≡ 0
+accepted_alone s limit answers e =
+    let a = question_accepted s limit answers e in
+    accepted_question s limit true record {
+      n_low = a.n_low;
+      n_high = a.n_high;
+      votes_long = a.votes_long;
+      crashes_long = a.crashes_long;
+      reaches_long = a.reaches_long;
+      answers_long = refl;
+      rules = a.rules;
+    }

@@ -3,6 +3,7 @@
 use Rattle.std.specs.Prelude.{ℕ, List, Bool, not, get_or, eqb}
 use Rattle.laws.specs.Test.{within}
 use Rattle.laws.specs.Below.{count}
+use Rattle.schedule.specs.declared.Tables.{Tables}
 
 pub record Schedule : Type 0 where
   pub n : ℕ
@@ -15,6 +16,10 @@ pub record Schedule : Type 0 where
 -- the schedule of a call's arguments
 abbrev pub schedule_of : ℕ → ℕ → List ℕ → List ℕ → List ℕ → Schedule
 schedule_of n t votes crashes reaches = record { n = n; t = t; votes = votes; crashes = crashes; reaches = reaches }
+
+-- the schedule of the tables that a call is lent
+abbrev pub schedule_lent : Tables → Schedule
+schedule_lent given = schedule_of given.n given.t given.votes.now given.crashes.now given.reaches.now
 
 -- whether a process with crash round c crashes, in whatever round: its "crash round isn't 0"
 abbrev pub ever_crashes : ℕ → Bool

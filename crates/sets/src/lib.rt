@@ -6,10 +6,14 @@
 // `requires`.
 #![tactic(auto)]
 
-ghost use Rattle.std.specs.Prelude.{◌≡◌, length, get_or, replicate};
+mod table;
+
+ghost use Rattle.std.specs.Prelude.{◌≡◌};
 ghost use Rattle.std.specs.Int.Count.{ones as Count·ones};
-ghost use Rattle.sets.specs.Largest.{largest, fitting as Largest·fitting};
+ghost use Rattle.sets.specs.Largest.{fitting as Largest·fitting};
 ghost use Rattle.sets.specs.Sets.{names, up_to, names_others};
+
+pub use table::{Blank, blank_table, entry_at};
 
 // The largest n that is accepted: the bits of a set, and the entries of a table.
 pub const WIDTH: usize = 64;
@@ -22,23 +26,6 @@ pub fn fitting(n: usize) -> usize
     ensures fit { result ≡ Largest·fitting n }
 {
     if n <= WIDTH { n } else { WIDTH }
-}
-
-// The entry at place i of a table of bytes, 0 past its end.
-pub fn byte_at(table: &[u8], i: usize) -> u8
-    ensures entry { result ≡ get_or table.now i 0 }
-{
-    if i < table.len() { table[i] } else { 0 }
-}
-
-// The entry at place i of a table of sets, the empty set past its end.
-pub fn set_at(table: &[Set], i: usize) -> Set
-    ensures entry { result ≡ get_or table.now i 0 }
-{
-    if table.len() <= i {
-        return 0;
-    }
-    table[i]
 }
 
 // Whether the set names the process at place i. Nobody past its bits is named.
@@ -77,21 +64,4 @@ pub fn ones(set: Set) -> usize
 {
     let named = u64::count_ones(set);
     named as usize
-}
-
-// A table of bytes that are 0.
-pub fn zero_bytes() -> [u8; WIDTH]
-    ensures zeros { result ≡ replicate largest 0 }
-    ensures long { length result ≡ largest }
-{
-    [0u8; WIDTH]
-}
-
-// A table of empty sets.
-pub fn zero_sets() -> [Set; WIDTH]
-    ensures zeros { result ≡ replicate largest 0 }
-    ensures long { length result ≡ largest }
-{
-    let empty: Set = 0;
-    [empty; WIDTH]
 }

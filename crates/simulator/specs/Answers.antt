@@ -1,6 +1,8 @@
 -- What `simulate` answers, and what the two answer tables hold after the call; and what `conclude` answers.
-use Rattle.std.specs.Prelude.{ℕ, ◌≡◌, List, true, length}
-use Rattle.laws.specs.Answer.{Answer, accepted, refused, answer, place_after}
+use Rattle.std.specs.Prelude.{ℕ, ◌≡◌, List, Result, true, length}
+use Rattle.laws.specs.Answer.{Answer, accepted, answer, place_after}
+use Rattle.laws.specs.declared.question.Question.{Question}
+use Rattle.laws.specs.Question.{answer_is}
 use Rattle.sets.specs.Largest.{largest}
 use Rattle.schedule.specs.Schedule.{Schedule}
 use Rattle.schedule.specs.Questions.{answers_of, question}
@@ -9,15 +11,9 @@ use Rattle.run.specs.Report.{Report, report}
 use Rattle.run.specs.Given.{GivenPromises}
 use Rattle.run.specs.Outcome.{outcome_round, outcome_decision, OutcomePromises}
 use Rattle.simulator.specs.declared.Counts.{Counts}
-use Rattle.simulator.specs.declared.Simulated.{Simulated}
-use Rattle.simulator.specs.declared.Simulated.TheVariants.{Completed, Refused}
 use Rattle.simulator.specs.declared.Outcome.{Outcome}
-use Rattle.simulator.specs.declared.Concluded.{Concluded}
 
--- for each case of the answer's enum document 01's number and values; `tt` stands for nothing: a refusal gives its number only
-abbrev pub simulated_is : Simulated → Answer Counts (Unit {0})
-simulated_is (Completed counts) = accepted counts
-simulated_is (Refused number) = refused number tt
+-- `tt` stands for nothing: a refusal gives its number only.
 
 -- the counts of a report
 abbrev pub counts_of : Report → Counts
@@ -53,20 +49,15 @@ given_by counts decisions rounds = record {
 }
 
 -- What is promised of what is given, of the answers: wherever the answer is one of counts, with those counts and the two tables after the call.
-pub record AnswersKeepPromises (s : Schedule) (r : Simulated) (decisions rounds : List ℕ) : Type 0 where
-  pub kept : (counts : Counts) → simulated_is r ≡ accepted counts → GivenPromises s (given_by counts decisions rounds)
+pub record AnswersKeepPromises (s : Schedule) (r : Result Counts Question) (decisions rounds : List ℕ) : Type 0 where
+  pub kept : (counts : Counts) → answer_is r ≡ accepted counts → GivenPromises s (given_by counts decisions rounds)
 
 -- What the call promises: of its answer, and of the two tables after it.
-pub record Simulates (s : Schedule) (decisions rounds : List ℕ) (r : Simulated) (decisions_now rounds_now : List ℕ) : Type 0 where
-  pub answered : simulated_is r ≡ simulate_answer fcwfa largest s decisions rounds
+pub record Simulates (s : Schedule) (decisions rounds : List ℕ) (r : Result Counts Question) (decisions_now rounds_now : List ℕ) : Type 0 where
+  pub answered : answer_is r ≡ simulate_answer fcwfa largest s decisions rounds
   pub decisions_given : decisions_now ≡ decisions_after fcwfa largest s decisions rounds
   pub rounds_given : rounds_now ≡ rounds_after fcwfa largest s decisions rounds
   pub promises : AnswersKeepPromises s r decisions_now rounds_now
-
--- for each case of the answer's enum document 02's values, and the number of a refusal
-abbrev pub concluded_is : Concluded → Answer Outcome (Unit {0})
-concluded_is (Concluded.Decided outcome) = accepted outcome
-concluded_is (Concluded.Refused number) = refused number tt
 
 -- "answers that value and round"
 abbrev pub outcome_of : Protocol → Schedule → Outcome
@@ -77,10 +68,10 @@ unfoldable pub outcome_answer : Protocol → ℕ → Schedule → Answer Outcome
 outcome_answer P limit s = answer (question s limit true) (outcome_of P s) tt
 
 -- What is promised of an outcome, of the answer: wherever it is one.
-pub record AnswerIsOutcome (s : Schedule) (r : Concluded) : Type 0 where
-  pub kept : (outcome : Outcome) → concluded_is r ≡ accepted outcome → OutcomePromises s outcome.decision outcome.round
+pub record AnswerIsOutcome (s : Schedule) (r : Result Outcome Question) : Type 0 where
+  pub kept : (outcome : Outcome) → answer_is r ≡ accepted outcome → OutcomePromises s outcome.decision outcome.round
 
 -- What the call promises of its answer.
-pub record Concludes (s : Schedule) (r : Concluded) : Type 0 where
-  pub answered : concluded_is r ≡ outcome_answer fcwfa largest s
+pub record Concludes (s : Schedule) (r : Result Outcome Question) : Type 0 where
+  pub answered : answer_is r ≡ outcome_answer fcwfa largest s
   pub promises : AnswerIsOutcome s r

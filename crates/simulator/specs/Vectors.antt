@@ -1,17 +1,17 @@
 -- Calls of the simulator with their answers and the tables after them, written from documents 01 and 02 by hand, and the statements that cover them. Proved
 -- in proofs/Vectors.antt, by computing what the definitions give: `simulator_vectors : SimulatorVectors` and `simulated_cases`,
 -- `outcome_vectors_lem : OutcomeVectors` and `concluded_cases`.
-use Rattle.std.specs.Prelude.{ℕ, ◌≡◌, List, [], ◌∷◌, map}
+use Rattle.std.specs.Prelude.{ℕ, ◌≡◌, List, [], ◌∷◌, map, Ok, Err}
 use Rattle.laws.specs.Answer.{Answer, accepted, refused}
+use Rattle.laws.specs.declared.question.Question.TheVariants.{Crashes}
+use Rattle.laws.specs.Question.{answer_is}
 use Rattle.sets.specs.Largest.{largest}
 use Rattle.schedule.specs.Four.{four, all_one, all_zero, four_voting1}
 use Rattle.schedule.specs.Schedule.{Schedule, schedule_of}
 use Rattle.run.specs.Protocol.{fcwfa}
 use Rattle.simulator.specs.declared.Counts.{Counts}
-use Rattle.simulator.specs.declared.Simulated.TheVariants.{Completed, Refused}
 use Rattle.simulator.specs.declared.Outcome.{Outcome}
-use Rattle.simulator.specs.declared.Concluded.TheVariants as Concluded
-use Rattle.simulator.specs.Answers.{simulated_is, counts_of, simulate_answer, decisions_after, rounds_after, given_by, concluded_is, outcome_answer}
+use Rattle.simulator.specs.Answers.{counts_of, simulate_answer, decisions_after, rounds_after, given_by, outcome_answer}
 
 -- a schedule and the two answer tables lent with it; the answer, and the tables after the call
 pub record SimulateCall : Type 0 where
@@ -64,10 +64,10 @@ pub record SimulatorVectors : Type 0 where
   pub decided : map (λ c. decisions_after fcwfa largest c.schedule c.decisions c.rounds) calls ≡ map (λ c. c.decisions_now) calls
   pub timed : map (λ c. rounds_after fcwfa largest c.schedule c.decisions c.rounds) calls ≡ map (λ c. c.rounds_now) calls
 
--- What each case of the answer's enum stands for, and the report that counts and tables make: its values are not exchanged.
+-- What each case of the answer stands for, and the report that counts and tables make: its values are not exchanged.
 pub record SimulatedCases (counts : Counts) (decisions rounds : List ℕ) : Type 0 where
-  pub completed : simulated_is (Completed counts) ≡ accepted counts
-  pub not_run : simulated_is (Refused 7) ≡ refused 7 tt
+  pub completed : answer_is (Ok counts) ≡ accepted counts
+  pub not_run : answer_is {A = Counts} (Err Crashes) ≡ refused 7 tt
   pub given_counts : counts_of (given_by counts decisions rounds) ≡ counts
   pub given_decisions : (given_by counts decisions rounds).decisions ≡ decisions
   pub given_rounds : (given_by counts decisions rounds).rounds ≡ rounds
@@ -91,7 +91,7 @@ outcome_calls =
 abbrev pub OutcomeVectors : Type 0
 OutcomeVectors = map (λ c. outcome_answer fcwfa largest c.schedule) outcome_calls ≡ map (λ c. c.answer) outcome_calls
 
--- What each case of the answer's enum stands for.
+-- What each case of the answer stands for.
 pub record ConcludedCases (outcome : Outcome) : Type 0 where
-  pub decided : concluded_is (Concluded.Decided outcome) ≡ accepted outcome
-  pub not_played : concluded_is (Concluded.Refused 7) ≡ refused 7 tt
+  pub decided : answer_is (Ok outcome) ≡ accepted outcome
+  pub not_played : answer_is {A = Outcome} (Err Crashes) ≡ refused 7 tt

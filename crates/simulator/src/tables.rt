@@ -22,12 +22,10 @@ pub fn fill(members: [Member; WIDTH], decisions: &mut [u8], rounds: &mut [u8])
     ensures decided { decisions.new ≡ tabulate (length decisions.old) (decision_of members) }
     ensures timed { rounds.new ≡ tabulate (length rounds.old) (round_of members) }
 {
-    let mut i: usize = 0;
-    while i < decisions.len() {
-        let m = members[i];
+    let n = decisions.len();
+    for (i, &m) in members[..n].iter().enumerate() {
         decisions[i] = decision(m);
         rounds[i] = m.decided;
-        i += 1;
     }
 }
 
@@ -45,6 +43,6 @@ pub fn counts_of(t: usize, crashes: &[u8], rounds: &[u8], messages: usize) -> Co
         f: counted.count,
         first: deciders::first_decider(crashes, rounds),
         last: deciders::last_round(rounds) as usize,
-        messages: messages,
+        messages,
     }
 }

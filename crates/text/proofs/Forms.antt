@@ -13,7 +13,9 @@ use Rattle.fields.specs.Found.{found, wrong, then_read}
 use Rattle.fields.specs.Decimal.{decimal, is_digit}
 use Rattle.fields.specs.Fields.{space, number_field, digit_field, reach_field}
 use Rattle.fields.proofs.Written.{found_if, then_found, number_reads, number_written, digit_reads, digit_written}
-use Rattle.text.specs.Forms.{Sizes, sizes_at, Entry, entry_at}
+use Rattle.text.specs.declared.Sizes.{Sizes}
+use Rattle.text.specs.declared.Entry.{Entry}
+use Rattle.text.specs.Forms.{sizes_at, entry_at}
 use Rattle.text.specs.Written.{sizes_line, process_line}
 use Rattle.text.proofs.Letters.{reach_reads, reach_written}
 use Rattle.text.proofs.Lines.{sizes_parts, process_parts}

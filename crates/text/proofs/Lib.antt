@@ -4,7 +4,7 @@ pub mod Lines
 pub mod Forms
 pub mod ReadBack
 pub mod Inverse
-pub mod Sizes
+pub mod Decimals
 pub mod Says
 pub mod Theorem
 pub mod Vectors

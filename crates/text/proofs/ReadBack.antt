@@ -16,7 +16,9 @@ use Rattle.fields.proofs.Written.{starts}
 use Rattle.schedule.specs.Schedule.{Schedule, schedule_of, vote_of, crash_of, reach_of, crash_count}
 use Rattle.schedule.specs.Questions.{question, process_question, Accepted}
 use Rattle.schedule.proofs.Accepted.{question_accepted, process_rules_question}
-use Rattle.text.specs.Forms.{sizes_heading, processes_heading, Sizes, sizes_at, Entry, entry_at}
+use Rattle.text.specs.declared.Sizes.{Sizes}
+use Rattle.text.specs.declared.Entry.{Entry}
+use Rattle.text.specs.Forms.{sizes_heading, processes_heading, sizes_at, entry_at}
 use Rattle.text.specs.Written.{each_line, sizes_line, process_line, process_lines, text_of}
 use Rattle.text.specs.Reading.{is_found, value_or, sizes_in, entry_in, schedule_in, text_answer}
 use Rattle.text.proofs.Accepted.{Passed, passes_text}

@@ -20,7 +20,7 @@ use Rattle.text.specs.Facts.{SaysTheSame, TextPromises, RefusalsSay, ReportOutpu
 use Rattle.text.proofs.Accepted.{accepted_schedule, line_bound, line_short, numbered, prints_promises, prints_outcome, prints_reasons}
 use Rattle.text.proofs.Inverse.{written}
 use Rattle.text.proofs.ReadBack.{reads_back}
-use Rattle.text.proofs.Sizes.{text_long, text_short}
+use Rattle.text.proofs.Decimals.{text_long, text_short}
 use Rattle.text.proofs.Says.{one_reading, one_outcome, one_reasons, no_report, no_outcome, no_reasons, one_refusal}
 
 pub accepted_texts : (limit most : ℕ) → limit ≤ 99 → TextPromises limit most

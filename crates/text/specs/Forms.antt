@@ -4,6 +4,8 @@ use Rattle.laws.specs.Quoted.{quoted}
 use Rattle.lines.specs.Lines.{lf}
 use Rattle.fields.specs.Found.{Found, found, wrong, then_read}
 use Rattle.fields.specs.Fields.{space, number_field, digit_field, reach_field}
+use Rattle.text.specs.declared.Sizes.{Sizes}
+use Rattle.text.specs.declared.Entry.{Entry}
 
 -- "line 1 `n t`", with its LF
 abbrev pub sizes_heading : List ℕ
@@ -13,23 +15,12 @@ sizes_heading = quoted "n t\n"
 abbrev pub processes_heading : List ℕ
 processes_heading = quoted "id vote crash reach\n"
 
--- the values of line 2
-pub record Sizes : Type 0 where
-  pub n : ℕ
-  pub t : ℕ
-
 -- "Line 2 has the values"
 unfoldable pub sizes_at : List ℕ → Found Sizes
 sizes_at text =
     then_read (number_field space text) (λ n rest.
     then_read (number_field lf rest) (λ t rest.
     found (record { n = n; t = t }) rest))
-
--- the values of a process's line
-pub record Entry : Type 0 where
-  pub vote : ℕ
-  pub crash : ℕ
-  pub reach : ℕ
 
 -- "line 3 + i has process i: its own number, one digit for the vote, the crash round, and a reach of n letters": of the process at place i, counted from 0,
 -- whose number is i + 1

@@ -8,7 +8,9 @@ use Rattle.fields.specs.Fields.{starts_with}
 use Rattle.member.specs.Opening.{size_questions}
 use Rattle.schedule.specs.Schedule.{Schedule, schedule_of, crashes_in}
 use Rattle.schedule.specs.Questions.{process_question}
-use Rattle.text.specs.Forms.{sizes_heading, processes_heading, Sizes, sizes_at, Entry, entry_at}
+use Rattle.text.specs.declared.Sizes.{Sizes}
+use Rattle.text.specs.declared.Entry.{Entry}
+use Rattle.text.specs.Forms.{sizes_heading, processes_heading, sizes_at, entry_at}
 
 -- "a text may have 8,192 bytes"; where document 01 says 2,048, it is this number
 abbrev pub longest : ℕ

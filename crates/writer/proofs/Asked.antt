@@ -8,15 +8,18 @@ use Prim.Native.Nat.{ℕ, ◌≤◌, ◌<◌}
 use native.Mathlib.Omega.{arith}
 use borrow.Author.Tests.{eq-eqb, ne_eqb, le-leb, lt-leb, leb-true}
 use lib.ListN.{length}
-use Rattle.laws.specs.Answer.{ask, and_then, accepted, answer}
-use Rattle.laws.proofs.Answer.{passed, and_then_went_on, answer_accepted, answer_refused, place_given, place_kept}
+use Rattle.std.specs.Prelude.{Ok, Err}
+use Rattle.laws.specs.Answer.{ask, and_then, accepted}
+use Rattle.laws.specs.Question.{number_of}
+use Rattle.laws.specs.declared.question.Question.{Question}
+use Rattle.laws.proofs.Answer.{passed, and_then_went_on, answer_accepted, place_given, place_kept}
+use Rattle.laws.proofs.Refusals.{not_zero, is_refused}
 use Rattle.sets.specs.Largest.{largest}
 use Rattle.schedule.specs.Schedule.{Schedule}
 use Rattle.schedule.specs.Questions.{question}
 use Rattle.text.specs.Written.{text_of}
 use Rattle.buffer.specs.Buffer.{Writes}
 use Rattle.buffer.proofs.Written.{written_front}
-use Rattle.writer.specs.declared.Writing.TheVariants.{Written, Refused}
 use Rattle.writer.specs.Answers.{write_question, write_answer, WritesSchedule}
 
 module _ (limit : ℕ) (s : Schedule) (buffer : List ℕ) where
@@ -42,15 +45,15 @@ module _ (limit : ℕ) (s : Schedule) (buffer : List ℕ) where
 
 -- A call that refuses, and one that writes.
 module _ (s : Schedule) (buffer : List ℕ) where
-  pub refuses : (number : ℕ) → write_question largest s buffer ≡ number → number ≢ 0 → WritesSchedule s buffer (Refused number) buffer
+  pub refuses : (q : Question) → number_of q ≡ write_question largest s buffer → WritesSchedule s buffer (Err q) buffer
   unfolding write_answer
-  refuses number e h = record {
-    answered = sym (ap (λ (q : ℕ). answer q (length (text_of s)) tt) e ∙ answer_refused number (length (text_of s)) tt h);
-    text_written = sym (place_kept (write_question largest s buffer) _ buffer (λ z. h (sym e ∙ z)));
+  refuses q e = record {
+    answered = is_refused q (write_question largest s buffer) (length (text_of s)) tt e;
+    text_written = sym (place_kept (write_question largest s buffer) _ buffer (λ z. not_zero q (e ∙ z)));
   }
 
   pub writes : {next : ℕ} {after : List ℕ} → question s largest true ≡ 0 → length (text_of s) ≤ length buffer → Writes buffer 0 after next (text_of s)
-      → WritesSchedule s buffer (Written next) after
+      → WritesSchedule s buffer (Ok next) after
   unfolding write_answer
   writes {next} asked fits w =
       let z = long_enough largest s buffer asked fits in

@@ -29,18 +29,18 @@ module _ (w : WriterCall) where
   s = w.schedule
 
   module _ (used : ℕ) (wrote : Wrote w used) where
-    answer_is : (write_question largest s w.buffer ≡ 0) × (used ≡ length (text_of s))
+    wrote_all : (write_question largest s w.buffer ≡ 0) × (used ≡ length (text_of s))
     unfolding write_answer
-    answer_is = accepted_is _ _ tt (sym wrote ∙ w.promised.answered)
+    wrote_all = accepted_is _ _ tt (sym wrote ∙ w.promised.answered)
 
     front : take used w.buffer_now ≡ text_of s
     front =
-        ap (λ (k : ℕ). take k w.buffer_now) answer_is.1
-        ∙ ap (take (length (text_of s))) (w.promised.text_written ∙ place_given _ _ w.buffer answer_is.0)
+        ap (λ (k : ℕ). take k w.buffer_now) wrote_all.1
+        ∙ ap (take (length (text_of s))) (w.promised.text_written ∙ place_given _ _ w.buffer wrote_all.0)
         ∙ take-append_seam (text_of s) (drop (length (text_of s)) w.buffer)
 
     asked : question s largest true ≡ 0
-    asked = (questions_passed largest s w.buffer answer_is.0).0
+    asked = (questions_passed largest s w.buffer wrote_all.0).0
 
   -- and where its schedule is accepted and there is room, it wrote
   makes : question s largest true ≡ 0 → length (text_of s) ≤ length w.buffer → Makes w (text_of s)

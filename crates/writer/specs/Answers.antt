@@ -1,17 +1,12 @@
 -- What `write` answers, and what the lent buffer holds after the call.
-use Rattle.std.specs.Prelude.{ℕ, ◌≡◌, List, ◌++◌, true, length, drop, leb}
-use Rattle.laws.specs.Answer.{ask, and_then, Answer, accepted, refused, answer, place_after}
+use Rattle.std.specs.Prelude.{ℕ, ◌≡◌, List, ◌++◌, true, length, drop, leb, Result}
+use Rattle.laws.specs.Answer.{ask, and_then, Answer, answer, place_after}
+use Rattle.laws.specs.Question.{answer_is}
+use Rattle.laws.specs.declared.question.Question.{Question}
 use Rattle.sets.specs.Largest.{largest}
 use Rattle.schedule.specs.Schedule.{Schedule}
 use Rattle.schedule.specs.Questions.{question}
 use Rattle.text.specs.Written.{text_of}
-use Rattle.writer.specs.declared.Writing.{Writing}
-use Rattle.writer.specs.declared.Writing.TheVariants.{Written, Refused}
-
--- for each case of the answer's enum document 02's number and value
-abbrev pub writing_is : Writing → Answer ℕ (Unit {0})
-writing_is (Written used) = accepted used
-writing_is (Refused number) = refused number tt
 
 -- A call with the tables of a schedule and a buffer: `limit` is the largest n that is accepted.
 module _ (limit : ℕ) (s : Schedule) (buffer : List ℕ) where
@@ -28,6 +23,6 @@ module _ (limit : ℕ) (s : Schedule) (buffer : List ℕ) where
   buffer_after = place_after write_question (text_of s ++ drop (length (text_of s)) buffer) buffer
 
 -- What the call promises: of its answer, and of the buffer after it.
-pub record WritesSchedule (s : Schedule) (buffer : List ℕ) (r : Writing) (buffer_now : List ℕ) : Type 0 where
-  pub answered : writing_is r ≡ write_answer largest s buffer
+pub record WritesSchedule (s : Schedule) (buffer : List ℕ) (r : Result ℕ Question) (buffer_now : List ℕ) : Type 0 where
+  pub answered : answer_is r ≡ write_answer largest s buffer
   pub text_written : buffer_now ≡ buffer_after largest s buffer

@@ -1,21 +1,23 @@
 -- What holds of the writer and the reader together, by what the two promise: `WritesSchedule`, and `Reads` of the crate `reader`. Proved in
 -- proofs/RoundTrips.antt, and assumes nothing: `round_trips : RoundTrips`.
-use Rattle.std.specs.Prelude.{ℕ, ◌≤◌, ◌≡◌, List, ◌++◌, true, length, take, drop}
+use Rattle.std.specs.Prelude.{ℕ, ◌≤◌, ◌≡◌, List, ◌++◌, true, length, take, drop, Result}
 use Rattle.laws.specs.Answer.{accepted}
+use Rattle.laws.specs.Question.{answer_is, answer_with_is}
+use Rattle.laws.specs.declared.question.Question.{Question}
+use Rattle.laws.specs.declared.question.Refused.{Refused}
 use Rattle.sets.specs.Largest.{largest}
 use Rattle.schedule.specs.Schedule.{Schedule, schedule_of}
 use Rattle.schedule.specs.Questions.{tables_of, question}
 use Rattle.text.specs.Written.{text_of, longest_written}
-use Rattle.reader.specs.declared.Reading.{Reading}
-use Rattle.reader.specs.Answers.{reading_is, Reads}
-use Rattle.writer.specs.declared.Writing.{Writing}
-use Rattle.writer.specs.Answers.{writing_is, WritesSchedule}
+use Rattle.text.specs.declared.Sizes.{Sizes}
+use Rattle.reader.specs.Answers.{Reads}
+use Rattle.writer.specs.Answers.{WritesSchedule}
 
 -- A call of the writer: the schedule of its tables and the buffer that it was lent, its answer, and the buffer after it.
 pub record WriterCall : Type 0 where
   pub schedule : Schedule
   pub buffer : List ℕ
-  pub answer : Writing
+  pub answer : Result ℕ Question
   pub buffer_now : List ℕ
   pub promised : WritesSchedule schedule buffer answer buffer_now
 
@@ -25,7 +27,7 @@ pub record ReaderCall : Type 0 where
   pub votes : List ℕ
   pub crashes : List ℕ
   pub reaches : List ℕ
-  pub answer : Reading
+  pub answer : Result Sizes (Refused ℕ)
   pub votes_now : List ℕ
   pub crashes_now : List ℕ
   pub reaches_now : List ℕ
@@ -33,11 +35,11 @@ pub record ReaderCall : Type 0 where
 
 -- it wrote a text of so many bytes
 abbrev pub Wrote : WriterCall → ℕ → Type 0
-Wrote w used = writing_is w.answer ≡ accepted used
+Wrote w used = answer_is w.answer ≡ accepted used
 
 -- it read these sizes
 abbrev pub ReadSizes : ReaderCall → ℕ → ℕ → Type 0
-ReadSizes r n t = reading_is r.answer ≡ accepted (record { n = n; t = t })
+ReadSizes r n t = answer_with_is r.answer ≡ accepted (record { n = n; t = t })
 
 -- the schedule of these sizes in the tables' first n entries after it
 abbrev pub schedule_read : ReaderCall → ℕ → ℕ → Schedule

@@ -1,14 +1,15 @@
 -- Calls of the writer with their answers and the buffers after them, written from documents 01 and 02 by hand, and the statement that covers them. Proved in
 -- proofs/Vectors.antt: `writer_vectors : WriterVectors` and `writing_cases : WritingCases`, by computing what the definitions give.
-use Rattle.std.specs.Prelude.{ℕ, ◌≡◌, List, [], ◌∷◌, ◌++◌, map, replicate}
+use Rattle.std.specs.Prelude.{ℕ, ◌≡◌, List, [], ◌∷◌, ◌++◌, map, replicate, Ok, Err}
 use Prim.Native.String.{String}
 use Rattle.laws.specs.Quoted.{quoted}
 use Rattle.laws.specs.Answer.{Answer, accepted, refused}
+use Rattle.laws.specs.Question.{answer_is}
+use Rattle.laws.specs.declared.question.Question.TheVariants.{Room}
 use Rattle.sets.specs.Largest.{largest}
 use Rattle.schedule.specs.Four.{four, all_one, all_zero, four_voting1}
 use Rattle.schedule.specs.Schedule.{Schedule, schedule_of}
-use Rattle.writer.specs.declared.Writing.TheVariants.{Written, Refused}
-use Rattle.writer.specs.Answers.{writing_is, write_answer, buffer_after}
+use Rattle.writer.specs.Answers.{write_answer, buffer_after}
 
 -- a schedule and the buffer lent with it; the answer, and the buffer after the call
 pub record Call : Type 0 where
@@ -67,7 +68,7 @@ pub record WriterVectors : Type 0 where
   pub answered : map (λ c. write_answer largest c.schedule c.lent) calls ≡ map (λ c. c.answer) calls
   pub left : map (λ c. buffer_after largest c.schedule c.lent) calls ≡ map (λ c. c.after) calls
 
--- What each case of the answer's enum stands for.
+-- What each case of the answer stands for.
 pub record WritingCases : Type 0 where
-  pub wrote : writing_is (Written 72) ≡ accepted 72
-  pub not_written : writing_is (Refused 18) ≡ refused 18 tt
+  pub wrote : answer_is {A = ℕ} (Ok 72) ≡ accepted 72
+  pub not_written : answer_is {A = ℕ} (Err Room) ≡ refused 18 tt

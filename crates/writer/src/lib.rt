@@ -1,71 +1,50 @@
 // Writing the text of a schedule into a lent buffer (document 02, K2).
 //
-// `write` takes any numbers, tables and buffer. It asks the questions of a schedule in tables and then
-// whether the buffer is long enough; where each is answered by yes it writes the text that the reader
-// takes and answers its length, and else it answers the number of the first no and leaves the buffer as it
-// was lent. It has no `requires`.
+// `write` takes any tables and buffer. It asks the questions of a schedule in tables and then whether the
+// buffer is long enough; where each is answered by yes it writes the text that the reader takes and answers
+// its length, and else it refuses by the first question whose answer is no and leaves the buffer as it was
+// lent. It has no `requires`.
 #![tactic(auto)]
 
 mod lengths;
 mod processes;
 
 ghost use Rattle.std.specs.Prelude.{◌≡◌, length};
-ghost use Rattle.schedule.specs.Schedule.{schedule_of};
+ghost use Rattle.schedule.specs.Schedule.{schedule_lent};
 ghost use Rattle.text.specs.Written.{text_of};
-ghost use Rattle.buffer.specs.Buffer.{Writes};
+ghost use Rattle.buffer.specs.Puts.{Puts};
 ghost use Rattle.writer.specs.Answers.{WritesSchedule};
 
 use crate::lengths::text_length;
 use crate::processes::put_processes;
-use acceptance::question;
-use buffer::{put, put_field};
+use acceptance::accepts;
+use buffer::Writer;
 use fields::SPACE;
+use laws::Question;
 use lines::LF;
-use sets::Set;
-
-// The length of the text, or the number of the first question whose answer is no.
-#[derive(Clone, Copy)]
-pub enum Writing {
-    Written(usize),
-    Refused(u8),
-}
+use schedule::Tables;
 
 // Writes the four parts of the text: the headings, the sizes, and the lines of the processes.
-fn put_text(
-    buffer: &mut [u8],
-    n: usize,
-    t: usize,
-    votes: &[u8],
-    crashes: &[u8],
-    reaches: &[Set],
-) -> usize
-    requires long { (length votes.now ≡ n) × (length crashes.now ≡ n) × (length reaches.now ≡ n) }
-    ensures written { Writes buffer.old 0 buffer.new result (text_of (schedule_of n t votes.now crashes.now reaches.now)) }
+fn put_text(out: &mut Writer, tables: &Tables)
+    requires long { let s = schedule_lent tables.now in (length s.votes ≡ s.n) × (length s.crashes ≡ s.n) × (length s.reaches ≡ s.n) }
+    ensures written { Puts out.old out.new (text_of (schedule_lent tables.now)) }
 {
-    let heading = put(buffer, 0, b"n t\n");
-    let first = put_field(buffer, heading, n, SPACE);
-    let sizes = put_field(buffer, first, t, LF);
-    let names = put(buffer, sizes, b"id vote crash reach\n");
-    put_processes(buffer, names, n, votes, crashes, reaches)
+    out.put(b"n t\n");
+    out.put_field(tables.n, SPACE);
+    out.put_field(tables.t, LF);
+    out.put(b"id vote crash reach\n");
+    put_processes(out, tables);
 }
 
-// The text of the schedule of these tables, at the start of the buffer. What stands behind it stays.
-pub fn write(
-    n: usize,
-    t: usize,
-    votes: &[u8],
-    crashes: &[u8],
-    reaches: &[Set],
-    buffer: &mut [u8],
-) -> Writing
-    ensures written { WritesSchedule (schedule_of n t votes.now crashes.now reaches.now) buffer.old result buffer.new }
+// The text of the schedule in these tables, at the start of the buffer, and its length. What stands behind it stays.
+pub fn write(tables: &Tables, buffer: &mut [u8]) -> Result<usize, Question>
+    ensures written { WritesSchedule (schedule_lent tables.now) buffer.old result buffer.new }
 {
-    let number = question(n, t, votes, crashes, reaches, n, n);
-    if number != 0 {
-        return Writing::Refused(number);
+    accepts(tables)?;
+    if buffer.len() < text_length(tables) {
+        return Err(Question::Room);
     }
-    if buffer.len() < text_length(n, t, votes, crashes) {
-        return Writing::Refused(18);
-    }
-    Writing::Written(put_text(buffer, n, t, votes, crashes, reaches))
+    let mut out = Writer { buffer, at: 0 };
+    put_text(&mut out, tables);
+    Ok(out.at)
 }

@@ -1,64 +1,45 @@
 // The lines of the processes.
 ghost use Rattle.std.specs.Prelude.{◌≡◌, ◌<◌, length};
+ghost use Rattle.schedule.specs.Schedule.{schedule_lent};
 ghost use Rattle.text.specs.Written.{letters_of, process_line, process_lines};
-ghost use Rattle.buffer.specs.Buffer.{Writes};
+ghost use Rattle.buffer.specs.Puts.{Puts};
 
-use buffer::{put_byte, put_field};
+use buffer::Writer;
 use fields::SPACE;
-use laws::bit;
 use lines::LF;
+use schedule::Tables;
 use sets::{Set, is_named};
 
 // Writes the n letters of a reach: the one at place j is 1 if the process at place j is named, else 0.
-fn put_letters(buffer: &mut [u8], at: usize, n: usize, reach: Set) -> usize
-    ensures written { Writes buffer.old at buffer.new result (letters_of n reach) }
+fn put_letters(out: &mut Writer, n: usize, reach: Set)
+    ensures written { Puts out.old out.new (letters_of n reach) }
 {
-    let mut next = at;
-    let mut j: usize = 0;
-    while j < n {
-        next = put_byte(buffer, next, b'0' + bit(is_named(reach, j)));
-        j += 1;
+    for j in 0..n {
+        let letter = if is_named(reach, j) { b'1' } else { b'0' };
+        out.put_byte(letter);
     }
-    next
 }
 
 // Writes the line of the process at place i.
-fn put_process(
-    buffer: &mut [u8],
-    at: usize,
-    n: usize,
-    i: usize,
-    vote: u8,
-    crash: u8,
-    reach: Set,
-) -> usize
+fn put_process(out: &mut Writer, n: usize, i: usize, vote: u8, crash: u8, reach: Set)
     requires small { i < n }
-    ensures written { Writes buffer.old at buffer.new result (process_line n i vote crash reach) }
+    ensures written { Puts out.old out.new (process_line n i vote crash reach) }
 {
-    let own = put_field(buffer, at, i + 1, SPACE);
-    let voted = put_field(buffer, own, vote as usize, SPACE);
-    let crashed = put_field(buffer, voted, crash as usize, SPACE);
-    let letters = put_letters(buffer, crashed, n, reach);
-    put_byte(buffer, letters, LF)
+    out.put_field(i + 1, SPACE);
+    out.put_field(vote as usize, SPACE);
+    out.put_field(crash as usize, SPACE);
+    put_letters(out, n, reach);
+    out.put_byte(LF);
 }
 
 // Writes the lines of the processes in order.
-pub fn put_processes(
-    buffer: &mut [u8],
-    at: usize,
-    n: usize,
-    votes: &[u8],
-    crashes: &[u8],
-    reaches: &[Set],
-) -> usize
-    requires long { (length votes.now ≡ n) × (length crashes.now ≡ n) × (length reaches.now ≡ n) }
-    ensures written { Writes buffer.old at buffer.new result (process_lines n votes.now crashes.now reaches.now) }
+pub fn put_processes(out: &mut Writer, tables: &Tables)
+    requires long { let s = schedule_lent tables.now in (length s.votes ≡ s.n) × (length s.crashes ≡ s.n) × (length s.reaches ≡ s.n) }
+    ensures written { let s = schedule_lent tables.now in Puts out.old out.new (process_lines s.n s.votes s.crashes s.reaches) }
 {
-    let mut next = at;
-    let mut i: usize = 0;
-    while i < n {
-        next = put_process(buffer, next, n, i, votes[i], crashes[i], reaches[i]);
-        i += 1;
+    // By number: a zip of three tables would nest their patterns, and read no plainer.
+    for i in 0..tables.n {
+        let (vote, crash) = (tables.votes[i], tables.crashes[i]);
+        put_process(out, tables.n, i, vote, crash, tables.reaches[i]);
     }
-    next
 }

@@ -9,6 +9,6 @@ unfolding before
 returns c =
     record {
       tested = let a = c.args in
-          let by-fate = c.is_ahead-among_equals.ensures.tested ∙ (λ l. ahead (c.ever_crashes-own_fate.ensures.told l) (c.ever_crashes-other_fate.ensures.told l) (ltb a.i a.k)) in
-          c.is_ahead.ensures.tested ∙ (λ l. ahead (c.byte_at-own_round.ensures.entry l) (c.byte_at-other_round.ensures.entry l) (by-fate l));
+          let by_fate = c.is_ahead-among_equals.ensures.tested ∙ (λ l. ahead (c.ever_crashes-own_fate.ensures.told l) (c.ever_crashes-other_fate.ensures.told l) (ltb a.i a.k)) in
+          c.is_ahead.ensures.tested ∙ (λ l. ahead (c.entry_at-own_round.ensures.entry l) (c.entry_at-other_round.ensures.entry l) (by_fate l));
     }

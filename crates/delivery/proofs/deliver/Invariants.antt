@@ -1,11 +1,7 @@
 -- `deliver` meets its contract: every row starts as the codes of those that complete the round, and each turn looks at one sender (Heard.antt). Assumes
 -- nothing.
-use Prim.Native.Nat.{◌-◌, ◌≤◌}
 use Rattle.delivery.proofs.Heard.{RowsSoFar}
 use Rattle.delivery.proofs.deliver.Given as goal
 
 abbrev pub invariant-loop-j : goal.invariant-loop-j
-invariant-loop-j l = (l.j ≤ l.size) × RowsSoFar l.crashes l.reaches l.codes l.round l.size l.j l.initial.grid l.grid
-
-abbrev pub decreases-loop-j : goal.decreases-loop-j
-decreases-loop-j l = l.size - l.j
+invariant-loop-j l = RowsSoFar l.crashes l.reaches l.codes l.round l.size l.j l.initial.grid l.grid

@@ -3,31 +3,37 @@ use mathlib.Core.Path.{◌≡◌, sym, ◌∙◌}
 use mathlib.Core.Bool.{true, false}
 use Prim.Native.Nat.{◌-◌}
 use native.Mathlib.Omega.{arith}
+use lib.ListN.{get_or}
+use Rattle.std.proofs.Common.{rules}
 use Rattle.laws.proofs.Test.{was_true, was_false}
 use Rattle.fields.specs.Decimal.{letter, is_digit}
 use Rattle.fields.specs.Fields.{ended, field_is}
-use Rattle.fields.proofs.Forms.{digit_within, digit_none, digit_one}
+use Rattle.fields.proofs.Forms.{digit_test, digit_within, digit_none, digit_one}
 use Rattle.fields.proofs.digit_field.Goals as goal
-use Rattle.fields.proofs.digit_field.Goals.{Else-not-is_digit}
+use Rattle.fields.proofs.digit_field.Goals.{After-unwrap_or-digit, Else-not-is_ascii_digit}
 
-pub returns-then-not-is_digit : goal.returns-then-not-is_digit
-returns-then-not-is_digit c =
+-- the byte that was looked up
+digit_read : (c : After-unwrap_or-digit) → c.unwrap_or-digit.result ≡ get_or c.args.text.now 0 0
+digit_read c = search rules
+
+pub returns-then-not-is_ascii_digit : goal.returns-then-not-is_ascii_digit
+returns-then-not-is_ascii_digit c =
     let a = c.args in
-    let first = c.byte_at-first in
-    let none : is_digit first.result ≡ false = was_false c.is_digit.ensures.tested c.if-not-is_digit.true in
-    record { read = sym (digit_none a.end a.text.now first.result first.ensures.read none); within = tt }
+    let first = c.unwrap_or-digit in
+    let none : is_digit first.result ≡ false = was_false (c.is_ascii_digit.ensures.value ∙ digit_test _) c.if-not-is_ascii_digit.true in
+    record { read = sym (digit_none a.end a.text.now first.result (digit_read (goal.at.returns-then-not-is_ascii_digit c).After-unwrap_or-digit) none); within = tt }
 
 -- the first byte is a digit
-digit : (c : Else-not-is_digit) → is_digit c.byte_at-first.result ≡ true
-digit c = was_true c.is_digit.ensures.tested c.if-not-is_digit.false
+digit : (c : Else-not-is_ascii_digit) → is_digit c.unwrap_or-digit.result ≡ true
+digit c = was_true (c.is_ascii_digit.ensures.value ∙ digit_test _) c.if-not-is_ascii_digit.false
 
-pub overflow_sub-first : goal.overflow_sub-first
-overflow_sub-first c =
+pub overflow_sub-digit : goal.overflow_sub-digit
+overflow_sub-digit c =
     omega (arith, digit_within _ (digit c))
 
 pub returns : goal.returns
 returns c =
     let a = c.args in
-    let first = c.byte_at-first in
+    let first = c.unwrap_or-digit in
     let read : field_is a.text.now c.ended.result ≡ ended a.end a.text.now (first.result - letter 0) 1 = c.ended.ensures.read in
-    record { read = read ∙ sym (digit_one a.end a.text.now first.result first.ensures.read (digit (goal.at.returns c).Else-not-is_digit)); within = c.ended.ensures.within }
+    record { read = read ∙ sym (digit_one a.end a.text.now first.result (digit_read (goal.at.returns c).After-unwrap_or-digit) (digit (goal.at.returns c).Else-not-is_ascii_digit)); within = c.ended.ensures.within }

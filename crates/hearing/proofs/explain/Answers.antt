@@ -1,34 +1,22 @@
--- `explain` meets its contract: hearing asks the questions, and a row that it answers is counted once more. Assumes nothing.
-use mathlib.Core.Path.{◌≡◌, sym, ap, ◌∙◌}
-use native.Mathlib.Omega.{arith}
-use Rattle.sets.specs.Largest.{largest}
-use Rattle.member.specs.Questions.{hear_question}
-use Rattle.member.specs.Answers.{heard_is}
-use Rattle.member.proofs.Promises.{accepts}
-use Rattle.hearing.proofs.Counted.{estimates_high}
-use Rattle.hearing.proofs.Numbered.{heard_question, heard_in_range, explained, not_explained}
+-- `explain` meets its contract. Assumes nothing.
+use Rattle.std.proofs.Common.{ap, ◌∙◌}
+use mathlib.Core.Path.{ap₂}
+use Rattle.std.proofs.lemmas.Result.{err_from_is_err_and}
+use Rattle.laws.specs.Answer.{accepted}
+use Rattle.laws.proofs.Refusals.{is_refused, is_accepted}
+use Rattle.member.specs.declared.Reason.{Reason}
+use Rattle.member.specs.Reasons.{reason_heard}
+use Rattle.member.specs.Answers.{explain_answer}
 use Rattle.hearing.proofs.explain.Goals as goal
-use Rattle.hearing.proofs.explain.Goals.{In-Moved}
 
--- the row is accepted
-passed : (c : In-Moved)
-    → hear_question largest c.args.m c.args.row.now ≡ 0
-passed c = heard_question largest _ _ (ap heard_is (sym c.in-Moved.is) ∙ c.hear-answer.ensures.answered)
+pub returns-in_err-heard : goal.returns-in_err-heard
+unfolding explain_answer
+returns-in_err-heard c =
+    let p = err_from_is_err_and c.from_residual.result c.from_residual.ensures.1 in
+    record { answered = rw (p.1, p.2) (is_refused _ _ _ _ c.in_err-heard.ensures.asked) }
 
-pub tally-counts-requires : goal.tally-counts-requires
-tally-counts-requires c =
-    record { short = let a = accepts largest _ _ (passed c) in let long = a.long in let high = a.range.bounds.n_high in omega arith }
-
-pub reason-requires : goal.reason-requires
-reason-requires c =
-    let a = accepts largest _ _ (passed (goal.at.reason-requires c).In-Moved) in
-    let long = a.long in
-    let high = a.range.bounds.n_high in record { in_range = heard_in_range largest _ _ (passed (goal.at.reason-requires c).In-Moved); short = omega arith; counted = c.tally-counts.ensures.counted; counts = omega (arith, estimates_high _ _ c.tally-counts.ensures.counted) }
-
-pub returns-in-Moved : goal.returns-in-Moved
-returns-in-Moved c =
-    record { answered = explained largest _ _ (ap heard_is (sym c.in-Moved.is) ∙ c.hear-answer.ensures.answered) c.reason.ensures.is }
-
-pub returns-in-Refused : goal.returns-in-Refused
-returns-in-Refused c =
-    record { answered = not_explained largest _ _ (ap heard_is (sym c.in-Refused.is) ∙ c.hear-answer.ensures.answered) }
+pub returns : goal.returns
+unfolding explain_answer
+returns c =
+    let same = c.in_ok-heard.ensures.same in
+    record { answered = ap (λ (x : Reason). accepted x) (c.reason.ensures.is ∙ ap₂ reason_heard same.0 same.1) ∙ is_accepted _ _ _ c.in_ok-heard.ensures.asked }

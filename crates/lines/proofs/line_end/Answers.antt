@@ -1,18 +1,22 @@
--- `line_end` meets its contract: the bytes from `at` to i are of the line, and what is left of it starts at i. Assumes nothing.
+-- `line_end` meets its contract: the line ends at the first LF from `at` on, and where there is none, with the text. Assumes nothing.
+use mathlib.Core.Path.{◌≡◌}
 use native.Mathlib.Omega.{arith}
-use Rattle.lines.proofs.Parts.{length_at, length_past, length_end}
+use lib.ListN.{length, drop, take}
+use lib.Dec.{eqb}
+use Prim.Native.Nat.{◌-◌}
+use Rattle.std.proofs.Common.{rules, tests}
+use Rattle.std.proofs.lemmas.Iterator.{YieldsList-from_slice}
+use Rattle.std.proofs.lemmas.Iterator.Search.{position_from_yields_List}
+use Rattle.std.specs.List.{position}
+use Rattle.lines.specs.Lines.{lf}
+use Rattle.lines.proofs.Parts.{first_line, rest_part}
 use Rattle.lines.proofs.line_end.Goals as goal
 
-pub returns-then-text-i-eq-LF : goal.returns-then-text-i-eq-LF
-returns-then-text-i-eq-LF c =
+pub returns-clause-ended : goal.returns-clause-ended
+returns-clause-ended c =
     let text = c.args.text.now in
-    omega (arith, length_at text c.loop-i.i (omega arith) (omega arith))
-
-pub loop-i-preserved : goal.loop-i-preserved
-loop-i-preserved c =
-    let text = c.args.text.now in
-    omega (arith, length_past text c.loop-i.i (omega arith) (λ e. omega arith))
-
-pub returns : goal.returns
-returns c =
-    omega (arith, length_end c.args.text.now c.loop-i.i (omega arith))
+    let at = c.args.at in
+    let rest = take (length text - at) (drop at text) in
+    let found : c.position.result ≡ position (λ b. eqb b lf) rest =
+    position_from_yields_List (λ b. eqb b lf) _ _ c.position.result c.position.ensures.ran (YieldsList-from_slice _ c.iter.ensures.rest) (λ x b q k. search (rules, tests)) in
+    rw (← rest_part text at) (omega (arith, first_line rest c.position.result found))

@@ -1,12 +1,12 @@
 -- `case_at` meets its contract. Assumes nothing.
-use native.Mathlib.Omega.{arith}
-use Rattle.marked.proofs.Entries.{case_found, no_case_lem}
+use Rattle.std.proofs.Common.{◌≡◌, slice_get, arith}
+use Rattle.std.proofs.lemmas.Grind.{common_steps}
+use Rattle.std.proofs.lemmas.Option.{gets}
+use Rattle.marked.proofs.Entries.{case_handed_out}
 use Rattle.marked.proofs.case_at.Goals as goal
-
-pub returns-then-k-ge11 : goal.returns-then-k-ge11
-returns-then-k-ge11 c =
-    record { handed_out = no_case_lem (omega arith) }
 
 pub returns : goal.returns
 returns c =
-    record { handed_out = case_found c.all_cases-all.ensures.marked _ (omega arith) (omega arith) }
+    let k = c.args.k in
+    let e : c.copied.result ≡ slice_get c.all_cases.result k = grind (arith, common_steps, gets) in
+    record { handed_out = rw e (case_handed_out c.all_cases.ensures.marked k) }

@@ -1,30 +1,31 @@
 -- `open` meets its contract. Assumes nothing.
+use Rattle.std.proofs.Common.{sym}
+use Rattle.std.proofs.lemmas.Result.{err_from_is_err_and}
 use native.Mathlib.Omega.{arith}
-use borrow.Author.Tests.{eq-eqb, ne_eqb}
-use mathlib.Core.Path.{sym, ◌∙◌}
-use Rattle.laws.specs.Answer.{answer}
+use Rattle.laws.proofs.Refusals.{is_refused, is_accepted}
 use Rattle.member.specs.Answers.{open_answer}
 use Rattle.member.proofs.Range.{open_limits}
 use Rattle.member.proofs.open.Goals as goal
 
-pub returns-then-question-ne0 : goal.returns-then-question-ne0
-unfolding open_answer answer
-returns-then-question-ne0 c =
-    record { answered = simp (← c.open_question-question.ensures.asked, ne_eqb _ _ c.if-question-ne0.true) }
+pub returns-in_err-open_question : goal.returns-in_err-open_question
+unfolding open_answer
+returns-in_err-open_question c =
+    let p = err_from_is_err_and c.from_residual.result c.from_residual.ensures.1 in
+    record { answered = rw (p.1, p.2) (is_refused _ _ _ _ c.in_err-open_question.ensures.asked) }
 
 pub overflow_cast-result : goal.overflow_cast-result
 overflow_cast-result c =
-    omega (arith, open_limits _ _ _ _ _ (sym c.open_question-question.ensures.asked ∙ c.if-question-ne0.false))
+    omega (arith, open_limits _ _ _ _ _ (sym c.in_ok-open_question.ensures.asked))
 
 pub overflow_cast-result-2 : goal.overflow_cast-result-2
 overflow_cast-result-2 c =
-    omega (arith, open_limits _ _ _ _ _ (sym c.open_question-question.ensures.asked ∙ c.if-question-ne0.false))
+    omega (arith, open_limits _ _ _ _ _ (sym c.in_ok-open_question.ensures.asked))
 
 pub overflow_cast-result-3 : goal.overflow_cast-result-3
 overflow_cast-result-3 c =
-    omega (arith, open_limits _ _ _ _ _ (sym c.open_question-question.ensures.asked ∙ c.if-question-ne0.false))
+    omega (arith, open_limits _ _ _ _ _ (sym c.in_ok-open_question.ensures.asked))
 
 pub returns : goal.returns
-unfolding open_answer answer
+unfolding open_answer
 returns c =
-    record { answered = simp (← c.open_question-question.ensures.asked, eq-eqb _ _ c.if-question-ne0.false) }
+    record { answered = is_accepted _ _ _ c.in_ok-open_question.ensures.asked }

@@ -1,4 +1,4 @@
--- The constant REFUSED is the refused schedules, each with the number that its questions come to: computed for the whole table at once.
+-- The constant REFUSED is the refused schedules, and the questions of each come to its number: computed for the whole table at once.
 -- Assumes nothing.
 use mathlib.Core.Path.{refl}
 use Rattle.laws.specs.Test.{within}
@@ -12,4 +12,4 @@ use Rattle.refusals.proofs.all_refusals.Goals as goal
 pub returns : goal.returns
 unfolding within sum count fold ask and_then ask_each names crashes_in tables_of reach_right entry_question question
 returns c =
-    record { refused = refl }
+    record { refused = record { entries = refl; numbers = refl } }

@@ -2,12 +2,12 @@
 use mathlib.Core.Path.{ap}
 use mathlib.Core.List.{[], ◌∷◌}
 use Prim.Native.Nat.{ℕ}
-use Rattle.buffer.proofs.Written.{writes_same, writes_more}
+use Rattle.buffer.proofs.Puts.{puts_same, puts_more}
 use Rattle.report.proofs.put_decided.Goals as goal
 
 pub returns : goal.returns
 returns c =
     record {
-      written = let letter = writes_same (ap (λ (x : ℕ). x ∷ []) c.decision_letter.ensures.is) c.put_byte-decided.ensures.written in
-          writes_more _ _ (writes_more _ _ letter c.put_byte-space.ensures.written) c.put_field.ensures.written;
+      written = let letter = puts_same (ap (λ (x : ℕ). x ∷ []) c.decision_letter.ensures.is) c.put_byte.ensures.written in
+          puts_more _ _ (puts_more _ _ letter c.put_byte-2.ensures.written) c.put_field.ensures.written;
     }

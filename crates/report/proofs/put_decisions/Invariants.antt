@@ -1,13 +1,17 @@
--- `put_decisions` meets its contract: after i processes their lines are written. Assumes nothing.
+-- `put_decisions` meets its contract: after i processes their lines are written, and the others are left. Assumes nothing.
 use mathlib.Core.Path.{◌≡◌}
-use Prim.Native.Nat.{◌-◌, ◌≤◌}
-use lib.ListN.{length}
+use Prim.Native.Nat.{◌≤◌}
+use lib.ListN.{length, drop}
 use Rattle.text.specs.Output.{decision_lines}
-use Rattle.buffer.specs.Buffer.{Writes}
+use Rattle.buffer.specs.Puts.{Puts}
 use Rattle.report.proofs.put_decisions.Given as goal
 
 abbrev pub invariant-loop-i : goal.invariant-loop-i
-invariant-loop-i l = (l.i ≤ length l.decisions) × (length l.bytes ≡ length l.initial.bytes) × Writes l.initial.bytes l.at l.bytes l.next (decision_lines l.i l.decisions l.decided)
-
-abbrev pub decreases-loop-i : goal.decreases-loop-i
-decreases-loop-i l = length l.decisions - l.i
+invariant-loop-i l =
+    let i = l.i-iterator.count in
+    record {
+      within : i ≤ length l.decisions;
+      left : l.i-iterator.iter.a.rest.now ≡ drop i l.decisions;
+      left_rounds : l.i-iterator.iter.b.rest.now ≡ drop i l.decided;
+      written : Puts l.initial.out l.out (decision_lines i l.decisions l.decided);
+    }

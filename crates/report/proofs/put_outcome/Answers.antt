@@ -2,15 +2,15 @@
 use mathlib.Core.Path.{sym}
 use native.Mathlib.Omega.{arith}
 use Rattle.text.specs.Output.{outcome_text}
-use Rattle.buffer.proofs.Written.{writes_none, writes_same, writes_more}
+use Rattle.buffer.proofs.Puts.{puts_none, puts_same, puts_more}
 use Rattle.report.proofs.Decisions.{written_outcome_lem, no_outcome_written}
 use Rattle.report.proofs.put_outcome.Goals as goal
 
 pub returns-then-decision-gt2 : goal.returns-then-decision-gt2
 returns-then-decision-gt2 c =
-    record { written = writes_same (no_outcome_written _ (omega arith)) (writes_none _ _) }
+    record { written = puts_same (no_outcome_written _ (omega arith)) (puts_none _) }
 
 pub returns : goal.returns
 unfolding outcome_text
 returns c =
-    record { written = writes_same (sym (written_outcome_lem _ (omega arith))) (writes_more _ _ c.put-heading.ensures.written c.put_decided.ensures.written) }
+    record { written = puts_same (sym (written_outcome_lem _ (omega arith))) (puts_more _ _ c.put.ensures.written c.put_decided.ensures.written) }

@@ -23,5 +23,5 @@ pub returns-else-code-eq0 : goal.returns-else-code-eq0
 returns-else-code-eq0 c =
     record {
       sent = let a = c.args in
-          c.ones.ensures.counted ∙ ap ones c.set_at-reach.ensures.entry ∙ reach_added a.round a.crash _ a.code (λ e. omega arith) (λ e. omega arith) (omega arith);
+          c.ones.ensures.counted ∙ ap ones c.entry_at-reach.ensures.entry ∙ reach_added a.round a.crash _ a.code (λ e. omega arith) (λ e. omega arith) (omega arith);
     }

@@ -7,20 +7,17 @@ use Rattle.delivery.proofs.rows.completing_row.Goals as goal
 
 pub loop-j-init : goal.loop-j-init
 loop-j-init c =
-    (omega arith, over_start c.zero_bytes-row.ensures.zeros)
+    over_start c.blank_table-row.ensures.blanks
 
 pub loop-j-preserved : goal.loop-j-preserved
 loop-j-preserved c =
-    let l = c.loop-j in (
-      omega arith,
-      over_more (omega arith) l.invariant.1 (c.heard_or_nothing.ensures.is ∙ completing_code _ _ _ c.completes.ensures.tested refl),
-    )
+    over_more (omega arith) c.loop-j.invariant (c.heard_or_nothing.ensures.is ∙ completing_code _ _ _ c.completes.ensures.tested refl)
 
 pub with_rest-requires : goal.with_rest-requires
 with_rest-requires c =
     let l = c.loop-j in
-    let end : l.j ≡ c.recorded-known.result = omega arith in
-    let over = over_all l.invariant.1 end in
+    let end : l.j ≡ c.min-known.result = omega arith in
+    let over = over_all l.invariant end in
     record { size = omega arith; cut = (over_so over (λ k h. sym (over_at over k 0 h))).is }
 
 pub returns : goal.returns
@@ -28,7 +25,7 @@ returns c =
     record {
       row = let l = c.loop-j in
           let a = c.args in
-          let known = c.recorded-known in
+          let known = c.min-known in
           let end : l.j ≡ known.result = omega arith in
-          completing_rest a.round a.n known.result a.crashes.now a.codes.now l.row known.ensures.less (over_all l.invariant.1 end) c.with_rest.ensures.whole;
+          completing_rest a.round a.n known.result a.crashes.now a.codes.now l.row known.ensures (over_all l.invariant end) c.with_rest.ensures.whole;
     }

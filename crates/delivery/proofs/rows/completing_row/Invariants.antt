@@ -1,5 +1,4 @@
 -- `completing_row` meets its contract: each turn enters one sender, and those past the end of the crash rounds come after. Assumes nothing.
-use Prim.Native.Nat.{◌-◌, ◌≤◌}
 use mathlib.Core.Bool.{cond}
 use lib.ListN.{get_or, replicate}
 use Rattle.laws.specs.Filled.{Overwritten}
@@ -10,8 +9,4 @@ use Rattle.delivery.proofs.rows.completing_row.Given as goal
 
 abbrev pub invariant-loop-j : goal.invariant-loop-j
 invariant-loop-j l =
-    (l.j ≤ l.known)
-    × Overwritten l.j (λ k. cond (completes_round l.round (get_or l.crashes k 0)) (get_or l.codes k 0) nothing) (replicate largest 0) l.row
-
-abbrev pub decreases-loop-j : goal.decreases-loop-j
-decreases-loop-j l = l.known - l.j
+    Overwritten l.j (λ k. cond (completes_round l.round (get_or l.crashes k 0)) (get_or l.codes k 0) nothing) (replicate largest 0) l.row

@@ -1,6 +1,6 @@
 -- `enter_crashing` meets its contract: a sender that crashes in another round, or never, changes nothing, and else each turn changes one row. Assumes
 -- nothing.
-use Prim.Native.Nat.{ℕ, ◌-◌, ◌≤◌}
+use Prim.Native.Nat.{ℕ}
 use mathlib.Core.Bool.{cond}
 use mathlib.Core.List.{[]}
 use lib.ListN.{get_or, set}
@@ -10,7 +10,4 @@ use Rattle.member.specs.Saying.{nothing}
 use Rattle.delivery.proofs.rows.enter_crashing.Given as goal
 
 abbrev pub invariant-loop-i : goal.invariant-loop-i
-invariant-loop-i l = (l.i ≤ l.n) × Overwritten l.i (λ (k : ℕ). set (get_or l.initial.grid k []) l.j (cond (names (get_or l.reaches l.j 0) k) l.code nothing)) l.initial.grid l.grid
-
-abbrev pub decreases-loop-i : goal.decreases-loop-i
-decreases-loop-i l = l.n - l.i
+invariant-loop-i l = Overwritten l.i (λ (k : ℕ). set (get_or l.initial.grid k []) l.j (cond (names (get_or l.reaches l.j 0) k) l.code nothing)) l.initial.grid l.grid

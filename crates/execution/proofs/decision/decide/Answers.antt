@@ -1,19 +1,16 @@
 -- `decide` meets its contract: either grid has a row for each process. Assumes nothing.
-use native.Mathlib.Omega.{arith}
 use mathlib.Core.Bool.{true}
+use mathlib.Core.Path.{◌≡◌, ap}
+use native.Mathlib.Omega.{arith}
+use lib.ListN.{length}
 use Rattle.sets.specs.Largest.{largest}
-use Rattle.schedule.specs.Schedule.{schedule_of}
+use Rattle.schedule.specs.Schedule.{schedule_lent}
 use Rattle.schedule.proofs.Accepted.{question_accepted}
 use Rattle.execution.proofs.decision.decide.Goals as goal
-
-pub decide_on-requires : goal.decide_on-requires
-decide_on-requires c =
-    record { accepted = c.requires.accepted; size = omega arith }
 
 pub decide_on-requires-2 : goal.decide_on-requires-2
 decide_on-requires-2 c =
     let a = c.args in
-    let pre = c.requires.accepted in
-    let s = schedule_of a.n a.t a.votes.now a.crashes.now a.reaches.now in
-    let n_high = (question_accepted s largest true pre).n_high in
-    record { accepted = pre; size = omega arith }
+    let n_high = (question_accepted (schedule_lent a.schedule.now.tables) largest true a.schedule.now.accepted).n_high in
+    let rows : length c.blank_rows-grid-2.result ≡ largest = ap length c.blank_rows-grid-2.ensures.blank in
+    record { size = omega arith }

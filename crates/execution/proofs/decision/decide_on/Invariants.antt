@@ -3,7 +3,7 @@
 use Prim.Native.Nat.{◌+◌, ◌-◌}
 use mathlib.Core.Path.{◌≡◌}
 use lib.ListN.{length}
-use Rattle.schedule.specs.Schedule.{schedule_of}
+use Rattle.schedule.specs.Schedule.{schedule_lent}
 use Rattle.execution.specs.Calls.{calls}
 use Rattle.execution.proofs.AllRounds.{Between}
 use Rattle.execution.proofs.Searching.{Searched}
@@ -11,9 +11,9 @@ use Rattle.execution.proofs.decision.decide_on.Given as goal
 
 abbrev pub invariant-loop-place : goal.invariant-loop-place
 invariant-loop-place l =
-    Between calls (schedule_of l.n l.t l.votes l.crashes l.reaches) l.grid l.codes l.members l.played
-    × Searched (schedule_of l.n l.t l.votes l.crashes l.reaches) l.place l.played
+    Between calls (schedule_lent l.schedule.tables) l.grid l.codes l.members l.played
+    × Searched (schedule_lent l.schedule.tables) l.place l.played
     × (length l.grid ≡ length l.initial.grid)
 
 abbrev pub decreases-loop-place : goal.decreases-loop-place
-decreases-loop-place l = (l.t + 1) - l.played
+decreases-loop-place l = (l.schedule.tables.t + 1) - l.played

@@ -4,7 +4,7 @@ use mathlib.Core.Bool.{true}
 use mathlib.Core.Path.{refl, sym, ◌∙◌}
 use native.Mathlib.Omega.{arith}
 use Rattle.sets.specs.Largest.{largest}
-use Rattle.schedule.specs.Schedule.{schedule_of}
+use Rattle.schedule.specs.Schedule.{schedule_lent}
 use Rattle.schedule.proofs.Accepted.{question_accepted}
 use Rattle.run.specs.Protocol.{fcwfa}
 use Rattle.run.proofs.Theorem.{accepted_run}
@@ -15,42 +15,38 @@ use Rattle.execution.proofs.play.play_on.Goals as goal
 pub loop-played-init : goal.loop-played-init
 loop-played-init c =
     let a = c.args in
-    let s = schedule_of a.n a.t a.votes.now a.crashes.now a.reaches.now in
+    let s = schedule_lent a.schedule.now.tables in
     let pre = c.requires in
-    let ok = question_accepted s largest true pre.accepted in
+    let ok = question_accepted s largest true a.schedule.now.accepted in
     let opened = c.open_all-members.ensures in
-    (starts calls s ok.n_high pre.size opened.opened c.zero_bytes-codes.ensures.zeros opened.said, nothing_counted calls s a.last, refl)
+    (starts calls s ok.n_high pre.size opened.opened c.blank_table-codes.ensures.blanks opened.said, nothing_counted calls s a.last, refl)
 
 pub overflow_cast-round : goal.overflow_cast-round
 overflow_cast-round c =
     let a = c.args in
-    let s = schedule_of a.n a.t a.votes.now a.crashes.now a.reaches.now in
+    let s = schedule_lent a.schedule.now.tables in
     let pre = c.requires in
-    let ok = question_accepted s largest true pre.accepted in
+    let ok = question_accepted s largest true a.schedule.now.accepted in
     let n_high = ok.n_high in
     let t_high = ok.rules.t_high in
     let rounds = pre.rounds in
     omega arith
 
-pub shape_of-grid-then-sent-eq0 : goal.shape_of-grid-then-sent-eq0
-shape_of-grid-then-sent-eq0 c =
-    c.loop-played.invariant.2
-
 pub returns-then-sent-eq0 : goal.returns-then-sent-eq0
 returns-then-sent-eq0 c =
     let a = c.args in
-    let s = schedule_of a.n a.t a.votes.now a.crashes.now a.reaches.now in
+    let s = schedule_lent a.schedule.now.tables in
     let pre = c.requires in
-    let ok = question_accepted s largest true pre.accepted in
-    let promises = accepted_run s largest true pre.accepted in
+    let ok = question_accepted s largest true a.schedule.now.accepted in
+    let promises = accepted_run s largest true a.schedule.now.accepted in
     let at = c.loop-played in
-    let sent = sent_in calls s ok.n_high at.played at.invariant.0 c.message_count-sent.ensures.counted in record { played = ends_silent fcwfa s ok.n_high promises.own_answers pre.rounds at.invariant.0.states at.invariant.1 promises.silence (omega arith) (sym sent ∙ c.if-sent-eq0.true); passed = refl }
+    let sent = sent_in calls s ok.n_high at.played at.invariant.0 c.message_count-sent.ensures.counted in record { played = ends_silent fcwfa s ok.n_high promises.own_answers pre.rounds at.invariant.0.states at.invariant.1 promises.silence (omega arith) (sym sent ∙ c.if-sent-eq0.true) }
 
 pub play_round-next-requires : goal.play_round-next-requires
 play_round-next-requires c =
     let a = c.args in
-    let s = schedule_of a.n a.t a.votes.now a.crashes.now a.reaches.now in
-    let ok = question_accepted s largest true c.requires.accepted in
+    let s = schedule_lent a.schedule.now.tables in
+    let ok = question_accepted s largest true a.schedule.now.accepted in
     let at = c.loop-played in
     let room = at.invariant.0.room in
     let long = codes_long calls s ok.n_high at.played at.invariant.0 in
@@ -59,9 +55,9 @@ play_round-next-requires c =
 pub overflow_add-messages : goal.overflow_add-messages
 overflow_add-messages c =
     let a = c.args in
-    let s = schedule_of a.n a.t a.votes.now a.crashes.now a.reaches.now in
+    let s = schedule_lent a.schedule.now.tables in
     let pre = c.requires in
-    let ok = question_accepted s largest true pre.accepted in
+    let ok = question_accepted s largest true a.schedule.now.accepted in
     let n_high = ok.n_high in
     let t_high = ok.rules.t_high in
     let rounds = pre.rounds in
@@ -74,8 +70,8 @@ overflow_add-messages c =
 pub loop-played-preserved : goal.loop-played-preserved
 loop-played-preserved c =
     let a = c.args in
-    let s = schedule_of a.n a.t a.votes.now a.crashes.now a.reaches.now in
-    let ok = question_accepted s largest true c.requires.accepted in
+    let s = schedule_lent a.schedule.now.tables in
+    let ok = question_accepted s largest true a.schedule.now.accepted in
     let at = c.loop-played in
     let round = c.play_round-next.ensures in
     let counted = c.message_count-sent.ensures in
@@ -85,14 +81,10 @@ loop-played-preserved c =
       (let kept = at.invariant.2 in omega arith),
     )
 
-pub shape_of-grid : goal.shape_of-grid
-shape_of-grid c =
-    c.loop-played.invariant.2
-
 pub returns : goal.returns
 returns c =
     let a = c.args in
-    let s = schedule_of a.n a.t a.votes.now a.crashes.now a.reaches.now in
+    let s = schedule_lent a.schedule.now.tables in
     let pre = c.requires in
-    let ok = question_accepted s largest true pre.accepted in
-    let at = c.loop-played in record { played = ends_last fcwfa s ok.n_high (accepted_run s largest true pre.accepted).own_answers pre.rounds at.invariant.0.states at.invariant.1 c.loop-played-test.false; passed = refl }
+    let ok = question_accepted s largest true a.schedule.now.accepted in
+    let at = c.loop-played in record { played = ends_last fcwfa s ok.n_high (accepted_run s largest true a.schedule.now.accepted).own_answers pre.rounds at.invariant.0.states at.invariant.1 c.loop-played-test.false }

@@ -14,10 +14,6 @@ pub returns-then-is_stopped : goal.returns-then-is_stopped
 returns-then-is_stopped c =
     let a = c.args in record { state = sym (stopped_stays calls a.round a.crash a.m a.row.now (sym c.is_stopped.ensures.tested ∙ c.if-is_stopped.true)); said = c.requires.said_before }
 
-pub heard-requires : goal.heard-requires
-heard-requires c =
-    record { said_before = c.requires.said_before }
-
 pub returns : goal.returns
 returns c =
     let a = c.args in

@@ -3,7 +3,7 @@ use mathlib.Core.Path.{refl, ap, ◌∙◌}
 use native.Mathlib.Omega.{arith}
 use lib.ListN.{length-replicate}
 use Rattle.sets.specs.Largest.{largest, fitting}
-use Rattle.laws.proofs.Overwritten.{over_start, over_more, over_long, over_all}
+use Rattle.laws.proofs.Overwritten.{over_start, over_more, over_all}
 use Rattle.run.specs.Protocol.{nobody}
 use Rattle.execution.specs.Calls.{calls}
 use Rattle.execution.proofs.OneRound.{all_opened, said_of}
@@ -11,11 +11,7 @@ use Rattle.execution.proofs.round.open_all.Goals as goal
 
 pub loop-i-init : goal.loop-i-init
 loop-i-init c =
-    (c.fitting-size.ensures.fit, omega arith, over_start c.no_members-members.ensures.none, over_start refl, omega arith)
-
-pub bounds-codes-i : goal.bounds-codes-i
-bounds-codes-i c =
-    let long = over_long c.loop-i.invariant.3 (omega arith) in omega arith
+    (c.fitting-size.ensures.fit, over_start c.blank_table-members.ensures.blanks, over_start refl, omega arith)
 
 pub loop-i-preserved : goal.loop-i-preserved
 loop-i-preserved c =
@@ -23,20 +19,15 @@ loop-i-preserved c =
     let inv = at.invariant in
     let long = length-replicate largest nobody in
     let opened = c.opened-first.ensures in
-    let state = opened.state ∙ ap (calls.opening _ _ _) c.byte_at.ensures.entry in (
+    let state = opened.state ∙ ap (calls.opening _ _ _) c.entry_at.ensures.entry in (
       inv.0,
-      omega arith,
-      over_more (omega arith) inv.2 state,
-      over_more (omega arith) inv.3 (opened.said ∙ ap calls.says state),
-      inv.4,
+      over_more (omega arith) inv.1 state,
+      over_more (omega arith) inv.2 (opened.said ∙ ap calls.says state),
+      inv.3,
     )
-
-pub shape_of-codes : goal.shape_of-codes
-shape_of-codes c =
-    over_long c.loop-i.invariant.3 (omega arith)
 
 pub returns : goal.returns
 returns c =
     let a = c.args in
     let at = c.loop-i in
-    let opens = all_opened calls a.n a.t a.votes.now at.invariant.0 (omega arith) at.invariant.2 in record { opened = opens; said = said_of calls (fitting a.n) _ opens (rw (← at.invariant.0) (over_all at.invariant.3 (omega arith))) }
+    let opens = all_opened calls a.n a.t a.votes.now at.invariant.0 (omega arith) at.invariant.1 in record { opened = opens; said = said_of calls (fitting a.n) _ opens (rw (← at.invariant.0) (over_all at.invariant.2 (omega arith))) }

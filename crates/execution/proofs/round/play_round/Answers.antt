@@ -6,7 +6,6 @@ use mathlib.Core.Path.{◌≡◌, refl, sym, ap, ap₂, ◌∙◌}
 use native.Mathlib.Omega.{arith}
 use borrow.Author.Rules.{rules}
 use lib.ListN.{get_or, take}
-use lib.Seq.{length-take-le}
 use Rattle.sets.specs.Largest.{fitting}
 use Rattle.laws.proofs.Overwritten.{over_start, over_more, over_past}
 use Rattle.member.specs.declared.Member.{Member}
@@ -15,34 +14,23 @@ use Rattle.run.specs.Run.{state_at, state_after}
 use Rattle.execution.specs.Calls.{calls}
 use Rattle.execution.proofs.OneRound.{all_heard, plays_round, all_said}
 use Rattle.execution.proofs.round.play_round.Goals as goal
-use Rattle.execution.proofs.round.play_round.Goals.{After-byte_at}
+use Rattle.execution.proofs.round.play_round.Goals.{After-entry_at}
 
 pub loop-i-init : goal.loop-i-init
 loop-i-init c =
-    (c.fitting-size.ensures.fit, omega arith, over_start refl, over_start refl, search rules, (let room = c.requires.room.1 in let same = c.fitting-size.ensures.fit in omega arith))
-
-pub bounds-grid-i : goal.bounds-grid-i
-bounds-grid-i c =
-    let room = c.requires.room.0 in
-    let kept = c.grid-1.given in
-    let same = c.loop-i.invariant.0 in
-    omega arith
-
-pub slice_bounds-next_turn-end : goal.slice_bounds-next_turn-end
-slice_bounds-next_turn-end c =
-    let long = c.row-in-loop-i-1.given in sym (length-take-le _ _ (omega arith))
+    (c.fitting-size.ensures.fit, over_start refl, over_start refl, search rules, (let room = c.requires.room.1 in let same = c.fitting-size.ensures.fit in omega arith))
 
 -- the member and the code at place i are those that were given
-member_here : (c : After-byte_at) → let l = c.loop-i in state_at l.members l.i ≡ state_at c.args.members l.i
-member_here c = let l = c.loop-i in over_past l.invariant.2 l.i nobody (omega arith)
+member_here : (c : After-entry_at) → let l = c.loop-i in state_at l.members l.i ≡ state_at c.args.members l.i
+member_here c = let l = c.loop-i in over_past l.invariant.1 l.i nobody (omega arith)
 
 pub next_turn-turn-requires : goal.next_turn-turn-requires
 next_turn-turn-requires c =
     record {
       said_before = let l = c.loop-i in
-          over_past l.invariant.3 l.i 0 (omega arith)
+          over_past l.invariant.2 l.i 0 (omega arith)
           ∙ c.requires.said_before l.i (omega arith)
-          ∙ ap calls.says (sym (member_here (goal.at.next_turn-turn-requires c).After-byte_at));
+          ∙ ap calls.says (sym (member_here (goal.at.next_turn-turn-requires c).After-entry_at));
     }
 
 pub loop-i-preserved : goal.loop-i-preserved
@@ -54,14 +42,13 @@ loop-i-preserved c =
     let state =
     turn.state
     ∙ ap₂ (λ (crash : ℕ) (m : Member). state_after calls a.round crash m (take size (get_or c.deliver.new.grid at.i [])))
-    c.byte_at.ensures.entry (member_here (goal.at.loop-i-preserved c).After-byte_at)
+    c.entry_at.ensures.entry (member_here (goal.at.loop-i-preserved c).After-entry_at)
     in (
       at.invariant.0,
-      omega arith,
-      over_more (omega arith) at.invariant.2 state,
-      over_more (omega arith) at.invariant.3 (turn.said ∙ ap calls.says state),
+      over_more (omega arith) at.invariant.1 state,
+      over_more (omega arith) at.invariant.2 (turn.said ∙ ap calls.says state),
+      at.invariant.3,
       at.invariant.4,
-      at.invariant.5,
     )
 
 pub returns : goal.returns
@@ -70,4 +57,4 @@ returns c =
     let pre = c.requires in
     let at = c.loop-i in
     let delivered = c.deliver.ensures.delivered pre.room.0 in
-    let hears = all_heard calls a.n a.round a.crashes.now c.deliver.new.grid at.invariant.0 (omega arith) at.invariant.2 in record { played = plays_round calls (fitting a.n) a.round (λ j. get_or a.codes.now j 0) a.crashes.now a.reaches.now delivered pre.said_before hears; said = all_said calls a.n a.round a.crashes.now c.deliver.new.grid at.invariant.0 (omega arith) hears at.invariant.3 }
+    let hears = all_heard calls a.n a.round a.crashes.now c.deliver.new.grid at.invariant.0 (omega arith) at.invariant.1 in record { played = plays_round calls (fitting a.n) a.round (λ j. get_or a.codes.now j 0) a.crashes.now a.reaches.now delivered pre.said_before hears; said = all_said calls a.n a.round a.crashes.now c.deliver.new.grid at.invariant.0 (omega arith) hears at.invariant.2 }

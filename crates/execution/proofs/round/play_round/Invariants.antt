@@ -1,6 +1,6 @@
 -- `play_round` meets its contract: each turn has one member hear the row that was delivered for it (OneRound.antt) and enters what it says next, and those
 -- after it are as they were, in the array and among the codes. Assumes nothing.
-use Prim.Native.Nat.{ℕ, ◌-◌, ◌≤◌}
+use Prim.Native.Nat.{ℕ, ◌≤◌}
 use mathlib.Core.List.{List, []}
 use mathlib.Core.Path.{◌≡◌}
 use lib.ListN.{length, get_or, take}
@@ -17,11 +17,7 @@ heard_at round crashes grid size members k = state_after calls round (get_or cra
 abbrev pub invariant-loop-i : goal.invariant-loop-i
 invariant-loop-i l =
     (l.size ≡ fitting l.n)
-    × (l.i ≤ l.size)
     × Overwritten l.i (heard_at l.round l.crashes l.grid l.size l.initial.members) l.initial.members l.members
     × Overwritten l.i (λ k. calls.says (heard_at l.round l.crashes l.grid l.size l.initial.members k)) l.initial.codes l.codes
     × (length l.initial.members ≡ largest)
     × (l.size ≤ length l.initial.codes)
-
-abbrev pub decreases-loop-i : goal.decreases-loop-i
-decreases-loop-i l = l.size - l.i

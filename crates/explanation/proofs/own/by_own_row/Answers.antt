@@ -1,16 +1,25 @@
 -- `by_own_row` meets its contract: the member hears the row of its own round (OwnRow.antt). Assumes nothing.
-use mathlib.Core.Path.{◌≡◌, refl, sym, ◌∙◌}
+use mathlib.Core.Path.{◌≡◌, refl, sym, ap, ◌∙◌}
 use mathlib.Core.Logic.{◌≢◌}
 use mathlib.Core.Bool.{true}
 use Prim.Native.Nat.{suc, ◌-◌}
 use native.Mathlib.Omega.{arith}
 use lib.Seq.{length-take-le}
 use Rattle.sets.specs.Largest.{largest}
-use Rattle.schedule.specs.Schedule.{schedule_of}
-use Rattle.schedule.proofs.Accepted.{question_accepted}
+use Rattle.schedule.specs.Schedule.{schedule_lent}
+use Rattle.laws.proofs.Answer.{refused_is}
+use Rattle.schedule.specs.Questions.{question}
+use Rattle.schedule.proofs.Accepted.{answers_long, question_accepted}
 use Rattle.explanation.proofs.OwnRow.{left_before, own_explained}
 use Rattle.explanation.proofs.Whole.{alone}
 use Rattle.explanation.proofs.own.by_own_row.Goals as goal
+
+-- the rounds of an accepted schedule are not refused
+pub returns-in_err-ran : goal.returns-in_err-ran
+returns-in_err-ran c =
+    let s = schedule_lent c.args.tables.now in
+    let passed = ap (question s largest) (answers_long s.n s.n s.n refl refl) ∙ c.requires.accepted in
+    record { explained = absurd ((refused_is _ _ tt c.in_err-ran.ensures.ran).1 passed) }
 
 pub offset_bounds-members-place : goal.offset_bounds-members-place
 offset_bounds-members-place c =
@@ -46,14 +55,14 @@ pub returns : goal.returns
 returns c =
     record {
       explained = let a = c.args in
-          let s = schedule_of a.n a.t a.votes.now a.crashes.now a.reaches.now in
+          let s = schedule_lent a.tables.now in
           let passed = c.requires.accepted in
           let low = c.requires.process in
           let own = c.requires.own.0 in
           let some : a.round ≢ 0 = c.requires.own.1 in
           let r = a.round - 1 in
           let in_round : a.round ≡ suc r = omega arith in
-          let ran = c.play_rounds-ran.ensures.ran in
+          let ran = c.in_ok-ran.ensures.ran in
           let left = left_before s passed a.place low r (sym own ∙ in_round) r refl (alone s _ ran) in
           let said = c.codes_of-codes.ensures.said in
           let sent = c.deliver.ensures.delivered (omega arith) in

@@ -1,7 +1,7 @@
--- `reach_value` meets its contract: after j places the number is the sum of the first j bits, which is below 2 ^ j. Assumes nothing.
+-- `reach_value` meets its contract: after j letters the number is the sum of the first j bits, which is below 2 ^ j. Assumes nothing.
 use mathlib.Core.Path.{◌≡◌}
 use mathlib.Core.List.{List}
-use Prim.Native.Nat.{ℕ, ◌-◌, ◌*◌, ◌^◌, ◌≤◌}
+use Prim.Native.Nat.{ℕ, ◌-◌, ◌*◌, ◌^◌}
 use lib.ListN.{get_or}
 use Rattle.laws.specs.Below.{sum}
 use Rattle.fields.specs.Decimal.{letter}
@@ -11,7 +11,4 @@ abbrev pub bit_at : List ℕ → ℕ → ℕ
 bit_at text j = (get_or text j 0 - letter 0) * 2 ^ j
 
 abbrev pub invariant-loop-j : goal.invariant-loop-j
-invariant-loop-j l = (l.j ≤ l.n) × (l.reach ≡ sum l.j (bit_at l.text))
-
-abbrev pub decreases-loop-j : goal.decreases-loop-j
-decreases-loop-j l = l.n - l.j
+invariant-loop-j l = l.reach ≡ sum l.j (bit_at l.text)

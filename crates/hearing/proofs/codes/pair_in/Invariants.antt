@@ -1,13 +1,9 @@
 -- `pair_in` meets its contract: after i places each count is that of the first i codes. Assumes nothing.
-use Prim.Native.Nat.{◌+◌, ◌-◌, ◌≤◌}
+use Prim.Native.Nat.{◌+◌}
 use mathlib.Core.Path.{◌≡◌}
 use lib.Dec.{eqb, ltb}
-use lib.ListN.{length}
 use Rattle.hearing.proofs.Counted.{Counted}
 use Rattle.hearing.proofs.codes.pair_in.Given as goal
 
 abbrev pub invariant-loop-i : goal.invariant-loop-i
-invariant-loop-i l = (l.next ≡ l.code + 1) × (l.i ≤ length l.row) × Counted l.row (λ c. eqb c l.code) (λ c. eqb c l.next) (λ c. ltb l.next c) l.i l.lower l.upper l.above
-
-abbrev pub decreases-loop-i : goal.decreases-loop-i
-decreases-loop-i l = length l.row - l.i
+invariant-loop-i l = (l.next ≡ l.code + 1) × Counted l.row (λ c. eqb c l.code) (λ c. eqb c l.next) (λ c. ltb l.next c) l.i l.lower l.upper l.above

@@ -10,17 +10,17 @@ use Rattle.member.specs.Questions.{row_question}
 use Rattle.hearing.proofs.codes.row_question.Goals as goal
 use Rattle.hearing.proofs.codes.row_question.Goals.{After-is_told_both}
 
-pub returns-then-others-ne0 : goal.returns-then-others-ne0
+pub returns-then-k-ne0 : goal.returns-then-k-ne0
 unfolding row_question ask
-returns-then-others-ne0 c =
-    record { asked = λ m r s. let k = c.args.k in simp (ne_eqb k.others 0 c.if-others-ne0.true) }
+returns-then-k-ne0 c =
+    record { asked = λ m r s. let k = c.args.k in simp (ne_eqb k.others 0 c.if-k-ne0.true) }
 
 pub returns-then-own-says : goal.returns-then-own-says
 unfolding row_question ask
 returns-then-own-says c =
     record {
       asked = λ m r s. let a = c.args in
-          simp (eq-eqb a.k.others 0 c.if-others-ne0.false, s, ne_eqb a.own a.says c.if-own-says.true);
+          simp (eq-eqb a.k.others 0 c.if-k-ne0.false, s, ne_eqb a.own a.says c.if-own-says.true);
     }
 
 pub returns-then-is_told_early : goal.returns-then-is_told_early
@@ -29,7 +29,7 @@ returns-then-is_told_early c =
     record {
       asked = λ m r s. let a = c.args in
           simp (
-            eq-eqb a.k.others 0 c.if-others-ne0.false,
+            eq-eqb a.k.others 0 c.if-k-ne0.false,
             s,
             eq-eqb a.own a.says c.if-own-says.false,
             r,
@@ -44,7 +44,7 @@ unfolding row_question ask
 up_to_17 c m r s =
     let a = c.args in
     simp (
-      eq-eqb a.k.others 0 c.if-others-ne0.false,
+      eq-eqb a.k.others 0 c.if-k-ne0.false,
       s,
       eq-eqb a.own a.says c.if-own-says.false,
       r,

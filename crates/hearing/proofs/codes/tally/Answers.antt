@@ -19,11 +19,3 @@ returns-then-above-eq0 c =
             others = nothing_above row _ none (λ x l. le-ltb 4 x (omega arith)) j;
           };
     }
-
-pub returns : goal.returns
-returns c =
-    record {
-      counted = let low = c.pair_in-estimates.ensures in
-          let high = c.pair_in-decided.ensures in
-          λ j. record { zeros = low.lower j; ones = low.upper j; aborts = high.lower j; commits = high.upper j; others = high.above j };
-    }

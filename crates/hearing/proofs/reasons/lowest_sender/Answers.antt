@@ -1,33 +1,25 @@
--- `lowest_sender` meets its contract: no decided message stands before the place looked at. Assumes nothing.
-use mathlib.Core.Path.{◌≡◌, sym, ◌∙◌}
-use mathlib.Core.Bool.{false}
-use native.Mathlib.Omega.{arith}
-use lib.ListN.{get_or}
-use Rattle.laws.proofs.Counting.{below_or_top}
-use Rattle.member.specs.Reasons.{is_decision}
+-- `lowest_sender` meets its contract: it is the place found, before which no decided message stands, and the row's length where none is found.
+-- Assumes nothing.
+use Rattle.std.proofs.Common.{rules, arith, ◌∙◌, ◌≡◌, ◌<◌, ℕ, List, length, get_or, Option, None, Some, true, false, unwrap_or}
+use Rattle.std.specs.Prelude.{MatchOption}
+use Rattle.member.specs.Reasons.{is_decision, lowest_sender}
 use Rattle.member.proofs.Reasons.{sender_is}
 use Rattle.hearing.proofs.reasons.lowest_sender.Goals as goal
 
-pub loop-i-init : goal.loop-i-init
-loop-i-init c =
-    (omega arith, λ j l. absurd (omega arith))
+abbrev NoneBefore : List ℕ → ℕ → Type 0
+NoneBefore row i = (j : ℕ) → j < i → is_decision (get_or row j 0) ≡ false
 
-pub returns-then-is_decision : goal.returns-then-is_decision
-returns-then-is_decision c =
-    record {
-      found = let at = c.loop-i in
-          sender_is c.args.row.now at.i at.invariant.0 at.invariant.1 (λ _. sym c.is_decision.ensures.tested ∙ c.if-is_decision.true);
-    }
-
-pub loop-i-preserved : goal.loop-i-preserved
-loop-i-preserved c =
-    let at = c.loop-i in
-    let row = c.args.row.now in
-    (omega arith, λ j l. below_or_top (λ k. is_decision (get_or row k 0) ≡ false) at.i at.invariant.1 (sym c.is_decision.ensures.tested ∙ c.if-is_decision.false) j (omega arith))
+sender_found : (row : List ℕ) (found : Option ℕ)
+    → MatchOption found (NoneBefore row (length row)) (λ i. (i < length row) × (is_decision (get_or row i 0) ≡ true) × NoneBefore row i)
+    → unwrap_or found (length row) ≡ lowest_sender row
+sender_found row None none = sender_is row (length row) (omega arith) none (λ l. absurd (omega arith))
+sender_found row (Some i) at = sender_is row i (omega (arith, at.0)) at.2 (λ _. at.1)
 
 pub returns : goal.returns
 returns c =
     record {
-      found = let at = c.loop-i in
-          sender_is c.args.row.now at.i at.invariant.0 at.invariant.1 (λ l. absurd (omega arith));
+      found = let row = c.args.row.now in
+          let found : MatchOption c.position.result (NoneBefore row (length row)) (λ i. (i < length row) × (is_decision (get_or row i 0) ≡ true) × NoneBefore row i) =
+          search rules in
+          c.unwrap_or.ensures ∙ sender_found row c.position.result found;
     }

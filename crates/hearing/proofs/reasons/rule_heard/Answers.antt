@@ -17,7 +17,7 @@ returns-then-m-eq1 c =
 
 pub rule_met-requires : goal.rule_met-requires
 rule_met-requires c =
-    record { counts = omega (arith, in_range_ranged _ _ c.requires.in_range, c.requires.counts, c.if-m-eq1.false) }
+    record { later = omega (arith, in_range_ranged _ _ c.args.heard.now.in_range, c.if-m-eq1.false) }
 
 pub returns : goal.returns
 unfolding rule_heard

@@ -7,7 +7,7 @@ use Rattle.hearing.proofs.rules.next.Goals as goal
 
 pub moved-requires : goal.moved-requires
 moved-requires c =
-    record { room = omega (arith, in_range_ranged _ _ c.requires.in_range) }
+    record { room = omega (arith, in_range_ranged _ _ c.args.heard.now.in_range) }
 
 pub returns-then-m-ne0 : goal.returns-then-m-ne0
 unfolding becomes
@@ -21,11 +21,11 @@ returns-then-m-eq1 c =
 
 pub rule_met-requires : goal.rule_met-requires
 rule_met-requires c =
-    record { counts = omega (arith, in_range_ranged _ _ c.requires.in_range, c.requires.counts, c.if-m-eq1.false) }
+    record { later = omega (arith, in_range_ranged _ _ c.args.heard.now.in_range, c.if-m-eq1.false) }
 
 pub by_rule-requires : goal.by_rule-requires
 by_rule-requires c =
-    record { room = omega (arith, in_range_ranged _ _ c.requires.in_range) }
+    record { room = omega (arith, in_range_ranged _ _ c.args.heard.now.in_range) }
 
 pub returns : goal.returns
 unfolding becomes

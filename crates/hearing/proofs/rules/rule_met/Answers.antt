@@ -7,6 +7,8 @@ use native.Mathlib.Omega.{arith}
 use borrow.Author.Tests.{eq-eqb, ne_eqb}
 use Rattle.member.specs.declared.Rule.TheVariants.{LastRound, NoRule}
 use Rattle.member.specs.Hearing.{rule_met}
+use Rattle.hearing.proofs.HeardRows.{few}
+use Rattle.member.proofs.Range.{in_range_ranged}
 use Rattle.hearing.proofs.rules.rule_met.Goals as goal
 use Rattle.hearing.proofs.rules.rule_met.Goals.{Else-is_enough}
 
@@ -31,7 +33,7 @@ returns-then-is_enough c =
     record { met = simp (← c.is_told.ensures.tested, c.if-is_told.false, ← c.is_zeros_only.ensures.tested, c.if-is_zeros_only.false, ← c.is_quiet.ensures.tested, c.if-is_quiet.false, ← c.is_enough.ensures.tested, c.if-is_enough.true) }
 
 -- past the first four rules
-up_to_last : (c : Else-is_enough) → let a = c.args in rule_met a.n a.t a.r a.k ≡ cond (eqb a.r (a.t + 1)) LastRound NoRule
+up_to_last : (c : Else-is_enough) → let h = c.args.heard.now in let a = h.member in rule_met a.n a.t a.round h.counts ≡ cond (eqb a.round (a.t + 1)) LastRound NoRule
 unfolding rule_met
 up_to_last c =
     simp (
@@ -48,13 +50,18 @@ up_to_last c =
 pub returns-then-r-t : goal.returns-then-r-t
 returns-then-r-t c =
     record {
-      met = let a = c.args in
-          simp (up_to_last (goal.at.returns-then-r-t c).Else-is_enough, eq-eqb a.r (a.t + 1) (omega arith));
+      met = let a = c.args.heard.now.member in
+          simp (up_to_last (goal.at.returns-then-r-t c).Else-is_enough, eq-eqb a.round (a.t + 1) (omega arith));
     }
 
 pub returns : goal.returns
 returns c =
     record {
-      met = let a = c.args in
-          simp (up_to_last (goal.at.returns c).Else-is_enough, ne_eqb a.r (a.t + 1) c.if-r-t.false);
+      met = let a = c.args.heard.now.member in
+          simp (up_to_last (goal.at.returns c).Else-is_enough, ne_eqb a.round (a.t + 1) c.if-r-t.false);
     }
+
+pub overflow_add-t : goal.overflow_add-t
+overflow_add-t c =
+    let h = c.args.heard.now in
+    omega (arith, few h, in_range_ranged _ _ h.in_range)

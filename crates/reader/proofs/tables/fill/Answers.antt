@@ -1,36 +1,33 @@
--- `fill` meets its contract: after i entries the first i are copied. Assumes nothing.
-use mathlib.Core.Path.{◌≡◌, refl, ◌∙◌}
+-- `fill` meets its contract: the first n entries are copied, and the others stay. Assumes nothing.
+use mathlib.Core.Path.{◌≡◌, sym, ap, ◌∙◌}
+use mathlib.Core.List.{List, ◌++◌}
+use Prim.Native.Nat.{ℕ, ◌≤◌, ◌<◌}
 use native.Mathlib.Omega.{arith}
-use lib.ListN.{length-set}
-use Rattle.laws.proofs.Overwritten.{over_start, over_more, over_all}
+use lib.ListN.{length, get_or, take, drop}
+use lib.Seq.{ext_get_or, get_or-take, length-take-le}
+use Rattle.laws.specs.Filled.{Overwritten}
+use Rattle.laws.proofs.Lists.{length_tabulate, get_d_tabulate}
 use Rattle.reader.proofs.tables.fill.Goals as goal
 
-pub loop-i-init : goal.loop-i-init
-loop-i-init c =
-    (omega arith, c.requires.long.0, c.requires.long.1, c.requires.long.2, over_start refl, over_start refl, over_start refl)
-
-pub loop-i-preserved : goal.loop-i-preserved
-loop-i-preserved c =
-    let loop = c.loop-i in
-    let pre = c.requires in (
-      omega arith,
-      length-set loop.votes loop.i _ ∙ loop.invariant.1,
-      length-set loop.crashes loop.i _ ∙ loop.invariant.2,
-      length-set loop.reaches loop.i _ ∙ loop.invariant.3,
-      over_more (omega arith) loop.invariant.4 refl,
-      over_more (omega arith) loop.invariant.5 refl,
-      over_more (omega arith) loop.invariant.6 refl,
-    )
+-- the first n entries of one table, copied to the front of another
+copied : (n : ℕ) (from to front : List ℕ) → n ≤ length to → front ≡ take n from → length front ≡ length (take n to) → Overwritten n (λ i. get_or from i 0) to (front ++ drop n to)
+copied n from to front fits same long =
+    let f : ℕ → ℕ = λ i. get_or from i 0 in
+    let n_long : length front ≡ n = long ∙ length-take-le n to fits in
+    record {
+      is = ap (λ (entries : List ℕ). entries ++ drop n to) (ext_get_or 0 front _ (n_long ∙ sym (length_tabulate n f)) (λ i l.
+          let below : i < n = omega arith in
+          ap (λ (entries : List ℕ). get_or entries i 0) same ∙ get_or-take n from i 0 below ∙ sym (get_d_tabulate n f i 0 below)));
+    }
 
 pub returns : goal.returns
 returns c =
+    let a = c.args in
+    let long = c.requires.long in
     record {
-      filled = let a = c.args in
-          let loop = c.loop-i in
-          let all : loop.i ≡ a.n = omega arith in
-          record {
-            votes_filled = over_all loop.invariant.4 all;
-            crashes_filled = over_all loop.invariant.5 all;
-            reaches_filled = over_all loop.invariant.6 all;
-          };
+      filled = record {
+        votes_filled = copied a.n a.voted a.votes.now _ (omega arith) c.copy_from_slice.ensures.after c.copy_from_slice.ensures.len;
+        crashes_filled = copied a.n a.crashed a.crashes.now _ (omega arith) c.copy_from_slice-2.ensures.after c.copy_from_slice-2.ensures.len;
+        reaches_filled = copied a.n a.reached a.reaches.now _ (omega arith) c.copy_from_slice-3.ensures.after c.copy_from_slice-3.ensures.len;
+      };
     }

@@ -8,7 +8,7 @@ use Rattle.fields.specs.Decimal.{field}
 use Rattle.member.specs.declared.Rule.{Rule}
 use Rattle.member.specs.declared.Rule.TheVariants.{Told, ZerosOnly, Quiet, RoundT, LastRound, NoRule}
 use Rattle.text.specs.Output.{number_shown}
-use Rattle.buffer.proofs.Written.{writes_same}
+use Rattle.buffer.proofs.Puts.{puts_same}
 use Rattle.report.proofs.reasons.put_number.Goals as goal
 
 -- the rules with no number, and those with one
@@ -26,8 +26,8 @@ with_number rule number (inr (inr (inr e))) = rw e
 
 pub returns-in-ZerosOnly : goal.returns-in-ZerosOnly
 returns-in-ZerosOnly c =
-    record { written = writes_same (without _ _ c.in-ZerosOnly.is) c.put.ensures.written }
+    record { written = puts_same (without _ _ c.in-ZerosOnly.is) c.put.ensures.written }
 
 pub returns-in-Told : goal.returns-in-Told
 returns-in-Told c =
-    record { written = writes_same (with_number _ _ c.in-Told.is) c.put_field.ensures.written }
+    record { written = puts_same (with_number _ _ c.in-Told.is) c.put_field.ensures.written }

@@ -1,74 +1,32 @@
 -- `fill` meets its contract: each turn stores the decision and the round of one process. Assumes nothing.
-use mathlib.Core.Path.{refl, sym, ◌∙◌}
+use mathlib.Core.Path.{◌≡◌, sym, ◌∙◌}
+use Prim.Native.Nat.{◌<◌}
 use native.Mathlib.Omega.{arith}
-use Rattle.laws.proofs.Filled.{each_none, each_more, each_all, filled_list}
+use lib.ListN.{length, get_or, take}
+use lib.Seq.{get_or-take, length-take-le}
+use Rattle.std.proofs.Common.{rules}
+use Rattle.sets.specs.Largest.{largest}
+use Rattle.laws.proofs.Filled.{each_more, each_all, filled_list}
+use Rattle.run.specs.Protocol.{nobody}
 use Rattle.run.specs.Report.{decision_of}
 use Rattle.simulator.proofs.tables.fill.Goals as goal
-
-pub loop-i-init : goal.loop-i-init
-loop-i-init c =
-    (omega arith, each_none refl, each_none c.requires.size.1)
-
-pub offset_bounds-members-i : goal.offset_bounds-members-i
-offset_bounds-members-i c =
-    let inv = c.loop-i.invariant in
-    let decisions_long = inv.1.long in
-    let rounds_long = inv.2.long in
-    omega arith
-
-pub bounds-members-i : goal.bounds-members-i
-bounds-members-i c =
-    let inv = c.loop-i.invariant in
-    let decisions_long = inv.1.long in
-    let rounds_long = inv.2.long in
-    omega arith
-
-pub bounds-decisions-i : goal.bounds-decisions-i
-bounds-decisions-i c =
-    let inv = c.loop-i.invariant in
-    let decisions_long = inv.1.long in
-    let rounds_long = inv.2.long in
-    omega arith
-
-pub bounds-rounds-i : goal.bounds-rounds-i
-bounds-rounds-i c =
-    let inv = c.loop-i.invariant in
-    let decisions_long = inv.1.long in
-    let rounds_long = inv.2.long in
-    omega arith
-
-pub overflow_add-i : goal.overflow_add-i
-overflow_add-i c =
-    let inv = c.loop-i.invariant in
-    let decisions_long = inv.1.long in
-    let rounds_long = inv.2.long in
-    omega arith
-
-pub loop-i-smaller : goal.loop-i-smaller
-loop-i-smaller c =
-    let inv = c.loop-i.invariant in
-    let decisions_long = inv.1.long in
-    let rounds_long = inv.2.long in
-    omega arith
 
 pub loop-i-preserved : goal.loop-i-preserved
 unfolding decision_of
 loop-i-preserved c =
     let inv = c.loop-i.invariant in
-    let decisions_long = inv.1.long in
-    let rounds_long = inv.2.long in
-    (omega arith, each_more (omega arith) inv.1 c.decision.ensures.is, each_more (omega arith) inv.2 refl)
-
-pub shape_of-decisions : goal.shape_of-decisions
-shape_of-decisions c =
-    c.loop-i.invariant.1.long
-
-pub shape_of-rounds : goal.shape_of-rounds
-shape_of-rounds c =
-    c.loop-i.invariant.2.long ∙ sym c.requires.size.1
+    let n = length c.args.decisions.now in
+    let long : length c.args.members ≡ largest = search rules in
+    let all = length-take-le n c.args.members (omega arith) in
+    let below : c.loop-i.i < n = omega arith in
+    let here : get_or (take n c.args.members) c.loop-i.i nobody ≡ get_or c.args.members c.loop-i.i nobody = get_or-take n c.args.members c.loop-i.i nobody below in
+    (each_more below inv.0 (rw (← here) c.decision.ensures.is), each_more below inv.1 (rw (← here)))
 
 pub returns : goal.returns
 returns c =
+    let n = length c.args.decisions.now in
+    let long : length c.args.members ≡ largest = search rules in
+    let all = length-take-le n c.args.members (omega arith) in
     let inv = c.loop-i.invariant in
-    let decisions_long = inv.1.long in
-    let rounds_long = inv.2.long in record { decided = filled_list decisions_long (each_all (omega arith) inv.1); timed = filled_list (rounds_long ∙ sym c.requires.size.1) (each_all (omega arith) inv.2) }
+    let decisions_long = inv.0.long in
+    let rounds_long = inv.1.long in record { decided = filled_list decisions_long (each_all (omega arith) inv.0); timed = filled_list (rounds_long ∙ sym c.requires.size.1) (each_all (omega arith) inv.1) }

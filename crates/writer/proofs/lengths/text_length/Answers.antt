@@ -6,6 +6,7 @@ use native.Mathlib.Omega.{arith}
 use lib.ListN.{get_or}
 use Rattle.laws.proofs.Below.{sum_start, sum_step, sum_end}
 use Rattle.fields.proofs.Digits.{digits_few}
+use Rattle.schedule.specs.Schedule.{schedule_lent}
 use Rattle.text.specs.Written.{process_length, text_length}
 use Rattle.writer.proofs.lengths.text_length.Goals as goal
 use Rattle.writer.proofs.lengths.text_length.Goals.{After-digit_count-2}
@@ -13,7 +14,7 @@ use Rattle.writer.proofs.lengths.text_length.Goals.{After-digit_count-2}
 -- how many digits n and t have at most
 few : (c : After-digit_count-2) → (c.digit_count.result ≤ 2) × (c.digit_count-2.result ≤ 2)
 few c =
-    let a = c.args in
+    let a = schedule_lent c.args.tables.now in
     let pre = c.requires in
     let n = digits_few 1 a.n (omega arith) in
     let t = digits_few 1 a.t (omega arith) in
@@ -38,27 +39,23 @@ overflow_add-total-2 c =
 pub loop-i-init : goal.loop-i-init
 loop-i-init c =
     let most = few c in
-    let a = c.args in
-    let none = sum_start (λ k. process_length a.n k (get_or a.votes.now k 0) (get_or a.crashes.now k 0)) in
-    (omega arith, omega arith, omega arith)
-
-pub process_length-total-requires : goal.process_length-total-requires
-process_length-total-requires c =
-    record { small = (omega arith, omega arith) }
+    let a = schedule_lent c.args.tables.now in
+    let none = sum_start (λ k. process_length a.n k (get_or a.votes k 0) (get_or a.crashes k 0)) in
+    (omega arith, omega arith)
 
 pub loop-i-preserved : goal.loop-i-preserved
 loop-i-preserved c =
-    let a = c.args in
-    let f : ℕ → ℕ = λ j. process_length a.n j (get_or a.votes.now j 0) (get_or a.crashes.now j 0) in
+    let a = schedule_lent c.args.tables.now in
+    let f : ℕ → ℕ = λ j. process_length a.n j (get_or a.votes j 0) (get_or a.crashes j 0) in
     let more = sum_step c.loop-i.i f _ _ refl c.process_length-total.ensures.is in
-    (omega arith, omega arith, omega arith)
+    (omega arith, omega arith)
 
 pub returns : goal.returns
 unfolding text_length
 returns c =
     record {
-      is = let a = c.args in
-          let f : ℕ → ℕ = λ j. process_length a.n j (get_or a.votes.now j 0) (get_or a.crashes.now j 0) in
+      is = let a = schedule_lent c.args.tables.now in
+          let f : ℕ → ℕ = λ j. process_length a.n j (get_or a.votes j 0) (get_or a.crashes j 0) in
           let all = sum_end c.loop-i.i a.n f _ refl (omega arith) (omega arith) in
           omega arith;
     }
