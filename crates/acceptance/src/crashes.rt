@@ -1,8 +1,12 @@
-// The crashes in a table of crash rounds, counted up to the one that is too many (document 02, K4).
-ghost use Rattle.std.specs.Prelude.{◌≡◌};
+// The crashes in a table of crash rounds, counted up to the one that is too many (document 02, K4), and the question
+// about their count.
+ghost use Rattle.std.specs.Prelude.{◌≡◌, length, leb};
+ghost use Rattle.laws.specs.Answer.{ask};
+ghost use Rattle.laws.specs.Question.{comes_to};
+ghost use Rattle.schedule.specs.Schedule.{crashes_in};
 ghost use Rattle.schedule.specs.Counting.{looked_at, crashes_counted};
 
-use laws::bit;
+use laws::{Question, bit};
 
 // How many of the processes looked at crash, and how many were looked at: as they are looked at in order,
 // that is the number of the last one, and 0 for nobody.
@@ -31,4 +35,15 @@ pub fn crash_count(t: usize, crashes: &[u8]) -> Counted
         count,
         looked: crashes.len(),
     }
+}
+
+// Question 7, of a table of crash rounds: whether at most t of its processes crash.
+pub fn crashes_question(t: usize, crashes: &[u8]) -> Result<(), Question>
+    ensures asked { comes_to result ≡ ask (leb (crashes_in (length crashes.now) crashes.now) t) 7 0 }
+{
+    let counted = crash_count(t, crashes);
+    if t < counted.count {
+        return Err(Question::Crashes);
+    }
+    Ok(())
 }

@@ -5,7 +5,7 @@
 #![tactic(auto)]
 
 use buffer::Writer;
-use laws::Question;
+use laws::{Question, comes_to};
 use marked::Case;
 use refusals::Refusal;
 use schedule::Tables;
@@ -72,7 +72,8 @@ fn show_report(
     rt.write_all(&bytes[..end])
 }
 
-// Whether these are the results that the table has for the case.
+// Whether these are the results that the table has for the case. The counts are compared one by one, since the table
+// has them in other widths.
 fn is_as_marked(case: &Case, counts: Counts, decisions: [u8; N], rounds: [u8; N]) -> bool {
     decisions == case.decisions
         && rounds == case.rounds
@@ -86,7 +87,7 @@ fn is_as_marked(case: &Case, counts: Counts, decisions: [u8; N], rounds: [u8; N]
 fn show_refusals(rt: &impl Print) -> io::Result<()> {
     for (k, refusal) in (0..).map_while(refusals::refusal_at).enumerate() {
         let answer = answer_to(&refusal);
-        println!(rt; "{} {}", k + 1, number(answer))?;
+        println!(rt; "{} {}", k + 1, comes_to(&answer))?;
         show_difference(rt, answer == refusal.answer)?;
     }
     Ok(())
@@ -106,14 +107,6 @@ fn answer_to(refusal: &Refusal) -> Result<(), Question> {
     let mut rounds = [0u8; 4];
     simulator::simulate(&tables, &mut decisions, &mut rounds)?;
     Ok(())
-}
-
-// The number of the question that refuses a schedule, 0 for one that passes.
-fn number(answer: Result<(), Question>) -> u8 {
-    match answer {
-        Ok(()) => 0,
-        Err(question) => question.into(),
-    }
 }
 
 // A line more where the table has other results.

@@ -6,26 +6,18 @@
 #![tactic(auto)]
 
 ghost use Rattle.std.specs.Prelude.{◌≡◌, ◌<◌, length, get_or};
-ghost use Rattle.laws.specs.Below.{bit};
+ghost use Rattle.laws.specs.Below.{bit as Below·bit};
 ghost use Rattle.schedule.specs.Schedule.{ever_crashes};
-ghost use Rattle.run.specs.Report.{ahead, before, first_with, first_of, last_of};
+ghost use Rattle.run.specs.Report.{before, first_with, first_of, last_of};
 
+use laws::bit;
 use sets::entry_at;
-
-// One step of the order of two processes, by the values x and y that they have in it: the smaller goes
-// ahead, and where they are equal the next step tells.
-fn is_ahead(x: u8, y: u8, next: bool) -> bool
-    ensures tested { result ≡ ahead x y next }
-{
-    x < y || (x == y && next)
-}
 
 // 1 if the process at place i crashes, 0 if it never does: in which round makes no difference.
 fn ever_crashes(crashes: &[u8], i: usize) -> u8
-    ensures told { result ≡ bit (ever_crashes (get_or crashes.now i 0)) }
+    ensures told { result ≡ Below·bit (ever_crashes (get_or crashes.now i 0)) }
 {
-    let crash = entry_at(crashes, i);
-    if crash == 0 { 0 } else { 1 }
+    bit(entry_at(crashes, i) != 0)
 }
 
 // Whether the process at place i goes before the one at place k: it decided in an earlier round; or in the
@@ -38,12 +30,12 @@ fn goes_before(crashes: &[u8], rounds: &[u8], i: usize, k: usize) -> bool
     let other_fate = ever_crashes(crashes, k);
     let own_round = entry_at(rounds, i);
     let other_round = entry_at(rounds, k);
-    let among_equals = is_ahead(own_fate, other_fate, i < k);
-    is_ahead(own_round, other_round, among_equals)
+    (own_round, own_fate, i) < (other_round, other_fate, k)
 }
 
 // The number of the first decider, 0 for none, after the process at place i is looked at as well; it was
-// `first` before.
+// `first` before. 0 stands for none, and not an `Option`: the definitions `first_with` and `first_of` have it so, and
+// the report's count `first` (document 01), which the C interface writes too, is this number as it stands.
 fn first_with(crashes: &[u8], rounds: &[u8], i: usize, first: usize) -> usize
     requires place { i < length rounds.now }
     ensures found { result ≡ first_with (λ j. get_or crashes.now j 0) (λ j. get_or rounds.now j 0) i first }
@@ -67,6 +59,7 @@ pub fn first_decider(crashes: &[u8], rounds: &[u8]) -> usize
     ensures found { result ≡ first_of (λ i. get_or crashes.now i 0) (λ i. get_or rounds.now i 0) (length rounds.now) }
 {
     let mut first: usize = 0;
+    // The loop goes by the place: a step may read both tables there, and at the place of the first decider so far.
     for i in 0..rounds.len() {
         first = first_with(crashes, rounds, i, first);
     }

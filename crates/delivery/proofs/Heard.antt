@@ -169,8 +169,3 @@ module _ (crashes reaches codes : List ℕ) (r : ℕ) where
       → RowsSoFar n j before grid → Overwritten size (λ (i : ℕ). padded size (heard i)) start grid
   rows_end size {n} {j} same past first h =
       rw (← same) (over_again first (over_so h (λ i b. padded_same n _ _ (λ k a. looked_at j i k (omega arith)))))
-
--- of a crash round that was read from the table
-pub entered_at : {n r j code c reach crash : ℕ} {before now : List (List ℕ)} → Entered n r j code c reach before now → c ≡ crash
-    → Entered n r j code crash reach before now
-entered_at e same = rw (← same) e

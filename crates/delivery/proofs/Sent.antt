@@ -4,35 +4,27 @@ use mathlib.Core.Path.{◌≡◌, refl, sym, ap, ap₂, ◌∙◌}
 use mathlib.Core.List.{List}
 use mathlib.Core.Logic.{◌≢◌, ◌⊎◌, inl, inr}
 use mathlib.Core.Bool.{Bool, true, false, cond, not}
-use Prim.Native.Nat.{ℕ, ◌+◌, ◌-◌, ◌*◌, ◌^◌, ◌≤◌, ◌<◌, zero-le}
+use Prim.Native.Nat.{ℕ, ◌+◌, ◌-◌, ◌*◌, ◌≤◌, ◌<◌}
 use native.Mathlib.Nat.{le_trans, le_of_eq, mul-le-mul, mul-one, mul-zero}
 use native.Mathlib.Omega.{arith}
 use lib.Count.{ones}
+use native.Mathlib.Numerals.{add-one}
 use lib.Dec.{eqb}
 use lib.ListN.{get_or}
 use borrow.Author.Tests.{eqb-true, eqb-false, ne_eqb}
 use Rattle.laws.specs.Below.{sum, bit, count}
 use Rattle.laws.proofs.Below.{sum_start, sum_step, count_high}
 use Rattle.laws.proofs.Test.{true_or_false, cond_true, cond_false}
-use Rattle.laws.proofs.Counting.{count_same}
+use Rattle.laws.proofs.Counting.{count_same, below_or_top}
 use Rattle.laws.proofs.Sums.{sum_same, sum_high, sum_parts, count_ends}
 use Rattle.sets.specs.Largest.{largest}
 use Rattle.sets.specs.Tables.{padded}
-use Rattle.sets.proofs.Theorem.{width_facts, table_facts}
+use Rattle.sets.proofs.Theorem.{table_facts}
 use Rattle.member.specs.Saying.{nothing}
 use Rattle.run.specs.Run.{completes_round}
 use Rattle.run.specs.Report.{sent_by, messages_of}
 use Rattle.run.proofs.Rounds.{not_completed, completed, sends_nothing, sends_to_all, sends_to_reach, sends_no_more}
 use Rattle.delivery.proofs.Heard.{from_completing}
-
-both_high : (b : Bool) (x y high : ℕ) → x ≤ high → y ≤ high → cond b x y ≤ high
-both_high b x y high p q =
-    elim (true_or_false b) [ inl e ↦ let c = cond_true b x y e in omega arith | inr e ↦ let c = cond_false b x y e in omega arith ]
-
-sent_few : (width n r c reach code : ℕ) → n ≤ width → reach < 2 ^ width → sent_by n r c reach code ≤ width
-unfolding sent_by
-sent_few width n r c reach code small low =
-    both_high (eqb code 0) 0 _ width zero-le (both_high (completes_round r c) (n - 1) _ width (omega arith) (both_high (eqb c r) (ones reach) 0 width ((width_facts width).few reach low) zero-le))
 
 -- whether a sender that completes the round says something
 abbrev speaks : ℕ → ℕ → ℕ → Bool
@@ -53,6 +45,19 @@ module _ (n r c reach code : ℕ) where
       elim (true_or_false (eqb c r)) [
         | inl e ↦ sends_to_reach n r c reach code some not_so (eqb-true c r e) ∙ sym (sends_to_reach 0 r c reach code some not_so (eqb-true c r e))
         | inr e ↦ sends_no_more n r c reach code some not_so (eqb-false c r e) ∙ sym (sends_no_more 0 r c reach code some not_so (eqb-false c r e))
+      ]
+
+  -- so a sender adds as many as a set has bits at most, if it does where n is 0
+  few_at : n ≤ largest → sent_by 0 r c reach code ≤ largest → sent_by n r c reach code ≤ largest
+  few_at small few =
+      elim (true_or_false (eqb code nothing)) [
+        | inl z ↦ let a = sends_nothing n r c reach code (eqb-true code nothing z) in omega arith
+        | inr z ↦
+            let some = eqb-false code nothing z in
+            elim (true_or_false (completes_round r c)) [
+              | inl e ↦ let a = sends_to_all n r c reach code some e in omega arith
+              | inr e ↦ let a = crashing_same e some in omega arith
+            ]
       ]
 
   pub sent_parts : sent_by n r c reach code ≡ (n - 1) * bit (speaks r c code) + sent_by 0 r c reach code
@@ -125,9 +130,6 @@ speakers_are n f {row} small e =
 pub completing_few : (copies : ℕ) {speaking : ℕ} (p : ℕ → Bool) → copies ≤ largest → speaking ≡ count largest p → copies * speaking ≤ largest * largest
 completing_few copies p small e = mul-le-mul small (le_trans (le_of_eq e) (count_high largest p))
 
-pub crashing_low : (r c reach code : ℕ) {copies : ℕ} → copies ≡ sent_by 0 r c reach code → reach < 2 ^ largest → copies ≤ largest
-crashing_low r c reach code e low = le_trans (le_of_eq e) (sent_few largest 0 r c reach code zero-le low)
-
 -- All of them: n - 1 for each that speaks, and what the crashing senders add.
 module _ (crashes reaches codes : List ℕ) (r : ℕ) where
   abbrev pub crashing_adds : ℕ → ℕ
@@ -144,9 +146,16 @@ module _ (crashes reaches codes : List ℕ) (r : ℕ) where
       ∙ sym (sum_same n _ _ (λ k l. sent_parts n r (get_or crashes k 0) (get_or reaches k 0) (get_or codes k 0)))
       ∙ ap (messages_of crashes reaches r (λ k. get_or codes k 0)) same
 
-  pub sent_low : (n : ℕ) → n ≤ largest → ((k : ℕ) → get_or reaches k 0 < 2 ^ largest) → messages_of crashes reaches r (λ k. get_or codes k 0) n ≤ largest * largest
-  sent_low n small low =
-      let high = sum_high n largest _ (λ j l. sent_few largest n r (get_or crashes j 0) (get_or reaches j 0) (get_or codes j 0) small (low j)) in
+  -- of the first n senders, each adds as many as a set has bits at most
+  abbrev pub FewAdded : ℕ → Type 0
+  FewAdded n = (j : ℕ) → j < n → crashing_adds j ≤ largest
+
+  pub few_more : (j : ℕ) {sent : ℕ} → FewAdded j → sent ≡ crashing_adds j → sent ≤ largest → FewAdded (j + 1)
+  few_more j few added low = rw (add-one j) (below_or_top (λ (k : ℕ). crashing_adds k ≤ largest) j few (le_trans (le_of_eq (sym added)) low))
+
+  pub sent_low : (n : ℕ) → n ≤ largest → FewAdded n → messages_of crashes reaches r (λ k. get_or codes k 0) n ≤ largest * largest
+  sent_low n small few =
+      let high = sum_high n largest _ (λ j l. few_at n r (get_or crashes j 0) (get_or reaches j 0) (get_or codes j 0) small (few j l)) in
       omega arith
 
   pub so_far_start : (first : ℕ) → first ≡ first + sum 0 crashing_adds

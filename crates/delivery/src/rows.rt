@@ -10,9 +10,9 @@ ghost use Rattle.member.specs.Saying.{nothing};
 ghost use Rattle.run.specs.Run.{completes_round};
 ghost use Rattle.delivery.specs.Delivery.{Entered};
 
-use crate::completes;
+use crate::{Round, completes};
 use laws::bit;
-use sets::{Set, WIDTH, blank_table, entry_at, is_named};
+use sets::{WIDTH, blank_table, entry_at, is_named};
 
 // What is heard of a code: it, or nothing.
 fn heard_or_nothing(heard: bool, code: u8) -> u8
@@ -36,16 +36,23 @@ fn with_rest(start: usize, n: usize, codes: &[u8; WIDTH], row: [u8; WIDTH]) -> [
 // The codes of the processes that complete the round, and nothing for each other. Those past the end of the
 // crash rounds never crash. They are entered apart, so that the loop over the others has no test of places and
 // is compiled to sixteen codes at a time.
-pub fn completing_row(n: usize, round: u8, codes: &[u8; WIDTH], crashes: &[u8]) -> [u8; WIDTH]
-    requires size { n ≤ largest }
-    ensures row { result ≡ padded n (λ j. cond (completes_round round (get_or crashes.now j 0)) (get_or codes.now j 0) nothing) }
+pub fn completing_row(size: usize, this_round: &Round) -> [u8; WIDTH]
+    requires size { size ≤ largest }
+    ensures row { let r = this_round.now in result ≡ padded size (λ j. cond (completes_round r.round (get_or r.crashes.now j 0)) (get_or r.codes.now j 0) nothing) }
 {
-    let known = n.min(crashes.len());
+    let Round {
+        round,
+        codes,
+        crashes,
+        ..
+    } = *this_round;
+    let known = size.min(crashes.len());
     let mut row = blank_table();
+    // The loop goes by the place, at which two tables are read and the row is entered: a zip of three is no plainer.
     for j in 0..known {
         row[j] = heard_or_nothing(completes(round, crashes[j]), codes[j]);
     }
-    with_rest(known, n, codes, row)
+    with_rest(known, size, codes, row)
 }
 
 // Stores the row at each of the first n places.
@@ -58,32 +65,26 @@ pub fn store_row(n: usize, row: [u8; WIDTH], grid: &mut [[u8; WIDTH]])
     }
 }
 
-// Enters a sender that crashes in the round at its place j of the first n rows: its code for the processes
+// Enters a sender that crashes in the round at its place j of the first `size` rows: its code for the processes
 // that its reach names, and nothing for the others. Most senders do not crash in the round: a reach is read only
 // after the tests of the crash round, so theirs are not. What is heard is looked up by the bit of the reach: a
 // jump that goes by such bits is often foreseen wrongly. And the rows are reached by their places: through an iterator
 // over them a whole run was measured a tenth slower.
-pub fn enter_crashing(
-    n: usize,
-    round: u8,
-    j: usize,
-    code: u8,
-    crash: u8,
-    reaches: &[Set],
-    grid: &mut [[u8; WIDTH]],
-)
-    requires size { (j < largest) × (n ≤ length grid.old) }
-    ensures entered { Entered n round j code crash (get_or reaches.now j 0) grid.old grid.new }
+pub fn enter_crashing(size: usize, this_round: &Round, j: usize, grid: &mut [[u8; WIDTH]])
+    requires size { (j < largest) × (size ≤ length grid.old) }
+    ensures entered { let r = this_round.now in Entered size r.round j (get_or r.codes.now j 0) (get_or r.crashes.now j 0) (get_or r.reaches.now j 0) grid.old grid.new }
 {
+    let crash = entry_at(this_round.crashes, j);
     if crash == 0 {
         return;
     }
-    if crash != round {
+    if crash != this_round.round {
         return;
     }
-    let reach = entry_at(reaches, j);
+    let reach = entry_at(this_round.reaches, j);
+    let code = this_round.codes[j];
     let heard = [0u8, code];
-    for i in 0..n {
+    for i in 0..size {
         grid[i][j] = heard[bit(is_named(reach, i)) as usize];
     }
 }

@@ -2,7 +2,7 @@
 // crashes in round 1 and reaches process 2 alone. Then calls for each refusal number.
 #![tactic(auto)]
 
-use laws::Question;
+use laws::comes_to;
 use member::Member;
 use sets::{Set, is_named};
 use std::fmt::{self, Display, Formatter};
@@ -66,6 +66,8 @@ fn opened(id: usize) -> Member {
     member::open(4, 3, id, 1).unwrap_or(a_member(0, 0))
 }
 
+// What a member says, and 0 where its saying is refused. `explanation` has the same line with a contract; a program has
+// none, and a function for both would be this one call itself.
 fn said(m: Member) -> u8 {
     member::say(m).unwrap_or(0)
 }
@@ -90,6 +92,7 @@ fn play(rt: &impl Print, members: [Member; 4], round: usize) -> io::Result<[Memb
         show(rt, members[0], "-", round, members[0])?;
     }
     let mut next = members;
+    // By place, since a member and its row belong to it, and a line is printed for each in order.
     for place in 1..4 {
         next[place] = step(rt, members[place], row_of(members, place, round), round)?;
     }
@@ -133,14 +136,6 @@ fn show(
     )
 }
 
-// The number of the question that refuses a call, 0 for one that is accepted.
-fn number<T: Drop>(answer: Result<T, Question>) -> u8 {
-    match answer {
-        Ok(_) => 0,
-        Err(question) => question.into(),
-    }
-}
-
 // Opening with each limit broken in turn, and with numbers at the far end of their types.
 fn refused_openings(rt: &impl Print) -> io::Result<()> {
     let openings = [
@@ -154,7 +149,7 @@ fn refused_openings(rt: &impl Print) -> io::Result<()> {
         (4, 3, 1, 255),
     ];
     for (n, t, id, vote) in openings {
-        println!(rt; "open {}", number(member::open(n, t, id, vote)))?;
+        println!(rt; "open {}", comes_to(&member::open(n, t, id, vote)))?;
     }
     Ok(())
 }
@@ -172,7 +167,7 @@ fn refused_states(rt: &impl Print) -> io::Result<()> {
 }
 
 fn show_say(rt: &impl Print, m: Member) -> io::Result<()> {
-    println!(rt; "say {}", number(member::say(m)))
+    println!(rt; "say {}", comes_to(&member::say(m)))
 }
 
 // Rows with each rule broken in turn, and one that is accepted.
@@ -187,5 +182,5 @@ fn refused_rows(rt: &impl Print) -> io::Result<()> {
 
 fn show_hear(rt: &impl Print, m: Member, row: &[u8]) -> io::Result<()> {
     let answer = hearing::hear(m, row).map_err(|refused| refused.question);
-    println!(rt; "hear {}", number(answer))
+    println!(rt; "hear {}", comes_to(&answer))
 }

@@ -14,6 +14,7 @@ use sets::Blank;
 pub struct Turn {
     pub state: Member,
     pub code: u8,
+    ghost said: { code ≡ calls.says state },
 }
 
 // Whether a member has stopped.
@@ -27,7 +28,6 @@ pub fn is_stopped(m: Member) -> bool
 fn in_turn(m: Member) -> Turn
     requires in_range { in_range largest m ≡ true }
     ensures state { result.state ≡ m }
-    ensures said { result.code ≡ calls.says m }
 {
     Turn {
         state: m,
@@ -38,25 +38,22 @@ fn in_turn(m: Member) -> Turn
 // A member opened with its number and vote; nobody, who says nothing, where that is refused.
 pub fn opened(n: usize, t: usize, id: usize, vote: u8) -> Turn
     ensures state { result.state ≡ calls.opening n t id vote }
-    ensures said { result.code ≡ calls.says result.state }
 {
-    match member::open(n, t, id, vote) {
-        Ok(m) => in_turn(m),
-        Err(_) => Turn {
+    let Ok(m) = member::open(n, t, id, vote) else {
+        return Turn {
             state: Member::blank(),
             code: 0,
-        },
-    }
+        };
+    };
+    in_turn(m)
 }
 
-// A member that says this code, after a row that it hears; and the same one where that is refused.
-pub fn heard(m: Member, code: u8, row: &[u8]) -> Turn
-    requires said_before { code ≡ calls.says m }
-    ensures state { result.state ≡ calls.hears m row.now }
-    ensures said { result.code ≡ calls.says result.state }
+// A member after a row that it hears; and the same one where that is refused.
+pub fn heard(before: Turn, row: &[u8]) -> Turn
+    ensures state { result.state ≡ calls.hears before.state row.now }
 {
-    match hearing::hear(m, row) {
-        Ok(next) => in_turn(next),
-        Err(_) => Turn { state: m, code },
-    }
+    let Ok(next) = hearing::hear(before.state, row) else {
+        return before;
+    };
+    in_turn(next)
 }

@@ -15,10 +15,11 @@ use member::Member;
 use schedule::Tables;
 use sets::{WIDTH, blank_table};
 
-// The place of the lowest-numbered of n members that has decided, n if none has.
-fn lowest_decided(n: usize, members: [Member; WIDTH]) -> usize
+// The place of the lowest-numbered of n members that has decided. n stands for none, and not an `Option`: the definition
+// `lowest_decided` has it so, and the outcome's own definitions compare that place with n.
+fn lowest_decided(n: usize, members: &[Member; WIDTH]) -> usize
     requires size { n ≤ largest }
-    ensures found { result ≡ lowest_decided n members }
+    ensures found { result ≡ lowest_decided n members.now }
 {
     members[..n]
         .iter()
@@ -46,17 +47,16 @@ fn decide_on(schedule: &Accepted, grid: &mut [[u8; WIDTH]]) -> FirstDecision
     let mut place = n;
     while place == n {
         let round = (played + 1) as u8;
-        let next = play_round(
+        play_round(
             n,
             round,
-            members,
+            &mut members,
             &mut codes,
             crashes,
             reaches,
             &mut grid[..],
         );
-        place = lowest_decided(n, next);
-        members = next;
+        place = lowest_decided(n, &members);
         played += 1;
     }
     let decider = members[place];

@@ -24,7 +24,7 @@ ghost use Rattle.execution.specs.Decision.{first_decision_of};
 
 use crate::decision::decide;
 use crate::play::play;
-use acceptance::accept;
+use acceptance::{AnswerLengths, accept, no_answers};
 pub use grid::blank_rows;
 use laws::Question;
 use member::Member;
@@ -47,17 +47,11 @@ pub struct FirstDecision {
     pub member: Member,
 }
 
-// Rounds 1 to `last` of the schedule of these tables, t + 1 at most. `decisions` and `rounds` are the lengths
-// of the call's answer tables.
-pub fn play_rounds(
-    tables: &Tables,
-    decisions: usize,
-    rounds: usize,
-    last: usize,
-) -> Result<Ran, Question>
-    ensures ran { answer_is result ≡ ran_of fcwfa largest (schedule_lent tables.now) (answers_of tables.now.n decisions rounds) (min last (tables.now.t + 1)) }
+// Rounds 1 to `last` of the schedule of these tables, t + 1 at most. The call's answer tables have these lengths.
+pub fn play_rounds(tables: &Tables, answers: AnswerLengths, last: usize) -> Result<Ran, Question>
+    ensures ran { answer_is result ≡ ran_of fcwfa largest (schedule_lent tables.now) (answers_of tables.now.n answers.decisions answers.rounds) (min last (tables.now.t + 1)) }
 {
-    let schedule = accept(tables, decisions, rounds)?;
+    let schedule = accept(tables, answers)?;
     let end = last.min(tables.t + 1);
     Ok(play(&schedule, end))
 }
@@ -66,6 +60,6 @@ pub fn play_rounds(
 pub fn play_to_decision(tables: &Tables) -> Result<FirstDecision, Question>
     ensures decided { answer_is result ≡ first_decision_of fcwfa largest (schedule_lent tables.now) }
 {
-    let schedule = accept(tables, tables.n, tables.n)?;
+    let schedule = accept(tables, no_answers(tables.n))?;
     Ok(decide(&schedule))
 }

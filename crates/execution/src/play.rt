@@ -8,7 +8,7 @@ use crate::Ran;
 use crate::grid::{FEW, blank_rows};
 use crate::round::{open_all, play_round};
 use acceptance::Accepted;
-use delivery::message_count;
+use delivery::{Round, message_count};
 use schedule::Tables;
 use sets::{WIDTH, blank_table};
 
@@ -34,20 +34,25 @@ fn play_on(schedule: &Accepted, last: usize, grid: &mut [[u8; WIDTH]]) -> Ran
     let mut messages: usize = 0;
     for played in 0..last {
         let round = (played + 1) as u8;
-        let sent = message_count(n, round, &codes, crashes, reaches);
+        let sent = message_count(&Round {
+            n,
+            round,
+            codes: &codes,
+            crashes,
+            reaches,
+        });
         if sent == 0 {
             return Ran { members, messages };
         }
-        let next = play_round(
+        play_round(
             n,
             round,
-            members,
+            &mut members,
             &mut codes,
             crashes,
             reaches,
             &mut grid[..],
         );
-        members = next;
         messages += sent;
     }
     Ran { members, messages }

@@ -9,11 +9,13 @@ ghost use Rattle.execution.specs.Calls.{calls};
 ghost use Rattle.execution.specs.Rounds.{Opens, PlaysRound};
 
 use crate::calls::{Turn, heard, is_stopped, opened};
-use delivery::{completes, deliver};
+use delivery::{Round, completes, deliver};
 use member::Member;
 use sets::{Set, WIDTH, blank_table, entry_at, fitting};
 
-// The members of all processes, opened, and nobody at the places after them. `codes` gets what they say.
+// The members of all processes, opened, and nobody at the places after them. `codes` gets what they say. They are two
+// arrays, and not one of `Turn`: document 01 wants an array of members, and a row is formed from codes that stand side by
+// side.
 pub fn open_all(n: usize, t: usize, votes: &[u8], codes: &mut [u8]) -> [Member; WIDTH]
     requires room { Largest·fitting n ≤ length codes.old }
     ensures opened { Opens calls (Largest·fitting n) t votes.now result }
@@ -21,57 +23,66 @@ pub fn open_all(n: usize, t: usize, votes: &[u8], codes: &mut [u8]) -> [Member; 
 {
     let size = fitting(n);
     let mut members: [Member; WIDTH] = blank_table();
+    // The loop goes by the place: it gives the member's number, a vote is read at it, and two tables are entered.
     for i in 0..size {
         let first = opened(size, t, i + 1, entry_at(votes, i));
-        let state = first.state;
-        members[i] = state;
+        members[i] = first.state;
         codes[i] = first.code;
     }
     members
 }
 
-// A member that says this code, after the round: it hears its row if it completes the round and is not stopped.
-fn next_turn(round: u8, crash: u8, m: Member, code: u8, row: &[u8]) -> Turn
-    requires said_before { code ≡ calls.says m }
-    ensures state { result.state ≡ state_after calls round crash m row.now }
-    ensures said { result.code ≡ calls.says result.state }
+// A member after the round: it hears its row if it completes the round and is not stopped.
+fn next_turn(round: u8, crash: u8, before: Turn, row: &[u8]) -> Turn
+    ensures state { result.state ≡ state_after calls round crash before.state row.now }
 {
     if !completes(round, crash) {
-        return Turn { state: m, code };
+        return before;
     }
-    if is_stopped(m) {
-        return Turn { state: m, code };
+    if is_stopped(before.state) {
+        return before;
     }
-    heard(m, code, row)
+    heard(before, row)
 }
 
 // One round of all members: their rows are formed in the grid from the codes that they say, and each that
 // completes the round and is not stopped hears its own. `codes` gets what they say in the next round: so no
-// member is asked what it says but where a row has changed it. Nothing is counted here.
+// member is asked what it says but where a row has changed it. Nothing is counted here. The members and their codes
+// are changed where they stand: an array that is given and given back is copied whole in each round. So it is not
+// lent a `Round`, which lends the codes to be read only. That the grid has a row for each process is a clause here and no
+// part of the grid's type, since `deliver` says what it does with a smaller one.
 pub fn play_round(
     n: usize,
     round: u8,
-    mut members: [Member; WIDTH],
+    members: &mut [Member; WIDTH],
     codes: &mut [u8; WIDTH],
     crashes: &[u8],
     reaches: &[Set],
     grid: &mut [[u8; WIDTH]],
-) -> [Member; WIDTH]
+)
     requires room { (Largest·fitting n ≤ length grid.old) × (Largest·fitting n ≤ length codes.old) }
-    requires said_before { (i : ℕ) → i < Largest·fitting n → get_or codes.old i 0 ≡ code_said calls members i }
-    ensures played { PlaysRound calls (Largest·fitting n) round members crashes.now reaches.now result }
-    ensures said { Overwritten (Largest·fitting n) (code_said calls result) codes.old codes.new }
+    requires said_before { (i : ℕ) → i < Largest·fitting n → get_or codes.old i 0 ≡ code_said calls members.old i }
+    ensures played { PlaysRound calls (Largest·fitting n) round members.old crashes.now reaches.now members.new }
+    ensures said { Overwritten (Largest·fitting n) (code_said calls members.new) codes.old codes.new }
 {
     let size = fitting(n);
-    deliver(n, round, codes, crashes, reaches, &mut grid[..]);
+    let this_round = Round {
+        n,
+        round,
+        codes: &*codes,
+        crashes,
+        reaches,
+    };
+    deliver(&this_round, &mut grid[..]);
+    // The loop goes by the place: the member and its code are changed where they stand, and two tables are read there.
     for i in 0..size {
-        let m = members[i];
+        let before = Turn {
+            state: members[i],
+            code: codes[i],
+        };
         let row = &grid[i][..];
-        let code = codes[i];
-        let turn = next_turn(round, entry_at(crashes, i), m, code, &row[..size]);
-        let state = turn.state;
-        members[i] = state;
+        let turn = next_turn(round, entry_at(crashes, i), before, &row[..size]);
+        members[i] = turn.state;
         codes[i] = turn.code;
     }
-    members
 }

@@ -11,6 +11,7 @@ ghost use Rattle.schedule.specs.Schedule.{schedule_lent};
 ghost use Rattle.explanation.specs.Answers.{Explains};
 
 use crate::own::by_own_row;
+use acceptance::no_answers;
 use execution::play_rounds;
 use laws::{Question, is_within};
 use member::{Reason, Rule};
@@ -23,13 +24,12 @@ pub fn explain(tables: &Tables, id: usize) -> Result<Reason, Question>
     ensures explained { Explains (schedule_lent tables.now) id result }
 {
     let n = tables.n;
-    let ran = play_rounds(tables, n, n, WIDTH)?;
+    let ran = play_rounds(tables, no_answers(n), WIDTH)?;
     if !is_within(1, id, n) {
         return Err(Question::OwnNumber);
     }
     let place = id - 1;
-    let members = ran.members;
-    let m = members[place];
+    let m = ran.members[place];
     let round = m.decided;
     if round == 0 {
         return Ok(Reason {

@@ -11,14 +11,16 @@ ghost use Rattle.run.specs.Run.{code_said};
 ghost use Rattle.run.specs.Why.{own_round, why_of};
 ghost use Rattle.execution.specs.Calls.{calls};
 
-use delivery::deliver;
+use acceptance::no_answers;
+use delivery::{Round, deliver};
 use execution::{blank_rows, play_rounds};
 use laws::Question;
 use member::{Member, Reason};
 use schedule::Tables;
 use sets::WIDTH;
 
-// What a member says, and nothing where its saying is refused.
+// What a member says, and nothing where its saying is refused. The program `exchange` has the same one-line call,
+// without a contract: a function for both would be that call itself.
 fn said(m: Member) -> u8
     ensures is { result ≡ calls.says m }
 {
@@ -41,19 +43,18 @@ pub fn by_own_row(tables: &Tables, place: usize, round: u8) -> Result<Reason, Qu
 {
     let n = tables.n;
     let before = (round - 1) as usize;
-    let ran = play_rounds(tables, n, n, before)?;
-    let members = ran.members;
-    let codes = codes_of(members);
+    let ran = play_rounds(tables, no_answers(n), before)?;
+    let codes = codes_of(ran.members);
     let mut grid = blank_rows::<WIDTH>();
-    deliver(
+    let this_round = Round {
         n,
         round,
-        &codes,
-        tables.crashes,
-        tables.reaches,
-        &mut grid[..],
-    );
-    let m = members[place];
+        codes: &codes,
+        crashes: tables.crashes,
+        reaches: tables.reaches,
+    };
+    deliver(&this_round, &mut grid[..]);
+    let m = ran.members[place];
     let row = &grid[place][..];
     hearing::explain(m, &row[..n])
 }

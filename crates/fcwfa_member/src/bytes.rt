@@ -1,4 +1,5 @@
-// A member's state as fourteen bytes.
+// A member's state as fourteen bytes. They are the C interface's, and no `From` can be made in this crate between types
+// of others, so these are functions.
 ghost use Rattle.std.specs.Prelude.{◌≡◌};
 ghost use Rattle.fcwfa_member.specs.Bytes.{state_bytes, state_in};
 

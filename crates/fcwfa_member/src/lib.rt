@@ -6,6 +6,8 @@
 // is as before. Each takes any numbers and bytes. A caller owes this alone: no pointer is NULL, also
 // where its length is 0, each is good for the number of entries that is said or given with it, and what
 // is written overlaps with nothing else that the call is lent.
+//
+// Each matches its answer, and does not take the number from `laws::comes_to`, as it writes what an accepted call gives.
 #![tactic(auto)]
 
 mod bytes;
@@ -20,6 +22,7 @@ ghost use Rattle.member.specs.Questions.{say_question, hear_question};
 ghost use Rattle.fcwfa_member.specs.Bytes.{state_bytes, state_in};
 
 // `state` becomes that of a new member.
+#[tactic(auto, unfolding(member::specs::Answers::open_answer, laws::specs::Answer::answer, laws::specs::Answer::place_after))]
 #[unsafe(no_mangle)]
 pub extern "C" fn fcwfa_open(n: usize, t: usize, id: usize, vote: u8, state: &mut [u8; 14]) -> u8
     ensures number { result ≡ open_question largest n t id vote }
@@ -35,6 +38,7 @@ pub extern "C" fn fcwfa_open(n: usize, t: usize, id: usize, vote: u8, state: &mu
 }
 
 // `code` becomes what the member says in the round to come.
+#[tactic(auto, unfolding(member::specs::Answers::say_answer, laws::specs::Answer::answer, laws::specs::Answer::place_after))]
 #[unsafe(no_mangle)]
 pub extern "C" fn fcwfa_say(state: &[u8; 14], code: &mut u8) -> u8
     ensures number { result ≡ say_question largest (state_in state.now) }
@@ -50,6 +54,7 @@ pub extern "C" fn fcwfa_say(state: &[u8; 14], code: &mut u8) -> u8
 }
 
 // `state` becomes that after the row.
+#[tactic(auto, unfolding(member::specs::Answers::hear_answer, laws::specs::Answer::answer, laws::specs::Answer::place_after))]
 #[unsafe(no_mangle)]
 pub extern "C" fn fcwfa_hear(state: &mut [u8; 14], row: &[u8]) -> u8
     ensures number { result ≡ hear_question largest (state_in state.old) row.now }

@@ -16,7 +16,9 @@ use schedule::Tables;
 use sets::Set;
 
 // Plays rounds of the schedule of these tables until one in which some process decides: `outcome` gets the
-// value that it decides, 0 or 1, and the round. The interface for C fixes the parameters.
+// value that it decides, 0 or 1, and the round. The interface for C fixes the parameters. The answer is matched, and its
+// number not taken from `laws::comes_to`, as the outcome of an accepted call is written.
+#[tactic(auto, unfolding(simulator::specs::Answers::outcome_answer, laws::specs::Answer::answer, laws::specs::Answer::place_after))]
 #[unsafe(no_mangle)]
 pub extern "C" fn fcwfa_outcome(
     n: usize,

@@ -14,7 +14,8 @@ use schedule::Tables;
 use sets::Set;
 use simulator::Counts;
 
-// The four counts in the report's order. A function, as no `From` can be made for types that are all of other crates.
+// The four counts in the report's order. A function of this crate, and no `From` beside the type: the numbers and their
+// order are the C interface's.
 fn counts_numbers(counts: Counts) -> [usize; 4]
     ensures are { result ≡ counts_numbers counts }
 {
@@ -23,7 +24,9 @@ fn counts_numbers(counts: Counts) -> [usize; 4]
 
 // Runs the schedule of these tables to its end: `decisions` and `rounds` get the decision of each
 // process, 2 for none, and its round, 0 for none; `counts` gets f, first, last and messages. The interface for
-// C fixes the parameters.
+// C fixes the parameters. The answer is matched, and its number not taken from `laws::comes_to`, as the counts of an accepted
+// call are written.
+#[tactic(auto, unfolding(simulator::specs::Answers::simulate_answer, laws::specs::Answer::answer, laws::specs::Answer::place_after))]
 #[unsafe(no_mangle)]
 pub extern "C" fn fcwfa_simulate(
     n: usize,

@@ -8,7 +8,7 @@ use Rattle.std.specs.Prelude.{cond}
 use lib.Dec.{eqb}
 use Rattle.laws.specs.Below.{fold}
 use Rattle.laws.specs.Answer.{ask, and_then, ask_each, Answer, accepted, refused, and_next, next_each}
-use Rattle.laws.specs.Question.{number_of}
+use Rattle.laws.specs.Question.{question_number}
 use Rattle.laws.specs.declared.question.Question.{Question}
 use Rattle.laws.specs.declared.question.Question.TheVariants.{Size, Crashable, Tables, Vote, CrashRound, Reach, Crashes, TextLength, LineForm, Room}
 use Rattle.laws.proofs.Answer.{refused_is, not_accepted, and_next_either, next_each_some}
@@ -21,7 +21,7 @@ use Rattle.writer.specs.Answers.{write_question}
 -- a question with this number
 pub record Numbered (k : ℕ) : Type 0 where
   pub question : Question
-  pub its_number : number_of question ≡ k
+  pub its_number : question_number question ≡ k
 
 -- what a row of questions comes to is 0, or a question's number
 abbrev pub Named : ℕ → Type 0
@@ -34,9 +34,9 @@ either : (b : Bool) (x y : ℕ) → Named x → Named y → Named (cond b x y)
 either true x y hx hy = hx
 either false x y hx hy = hy
 
-asked : (b : Bool) (q : Question) (others : ℕ) → Named others → Named (ask b (number_of q) others)
+asked : (b : Bool) (q : Question) (others : ℕ) → Named others → Named (ask b (question_number q) others)
 unfolding ask
-asked b q others h = either b others (number_of q) h (λ _. record { question = q; its_number = refl })
+asked b q others h = either b others (question_number q) h (λ _. record { question = q; its_number = refl })
 
 both : (k others : ℕ) → Named k → Named others → Named (and_then k others)
 unfolding and_then

@@ -2,7 +2,7 @@
 use Rattle.std.specs.Prelude.{ℕ, ◌≡◌, List, [], ◌∷◌, length, get_or, Ok, Err}
 use Rattle.laws.specs.Answer.{Answer, accepted, refused, place_after}
 use Rattle.laws.specs.declared.question.Question.{Question}
-use Rattle.laws.specs.Question as Question
+use Rattle.laws.specs.Question.{question_number}
 use Rattle.sets.specs.Largest.{largest}
 use Rattle.schedule.specs.Schedule.{Schedule}
 use Rattle.text.specs.declared.Sizes.{Sizes}
@@ -47,13 +47,13 @@ pub record ReadsNumbers (text votes crashes reaches read : List ℕ) (number : �
 -- A call of the writer that is refused by the question with this number.
 pub record RefusedWriting (s : Schedule) (text : List ℕ) (number : ℕ) (text_now : List ℕ) : Type 0 where
   pub question : Question
-  pub its_number : Question.number_of question ≡ number
+  pub its_number : question_number question ≡ number
   pub refused : WritesSchedule s text (Err question) text_now
 
 -- A call of the reader that is refused by the question with this number, and this line.
 pub record RefusedReading (text votes crashes reaches : List ℕ) (number line : ℕ) (votes_now crashes_now reaches_now : List ℕ) : Type 0 where
   pub question : Question
-  pub its_number : Question.number_of question ≡ number
+  pub its_number : question_number question ≡ number
   pub refused : Reads text votes crashes reaches (Err (record { question = question; back = line })) votes_now crashes_now reaches_now
 
 -- What the numbers tell a caller: 0 that the text was written, or read, and any other number that the call was refused by the question with it.

@@ -5,6 +5,8 @@
 // caller owes this alone: no pointer is NULL, also where its length is 0, each is good for the number of
 // entries that is said or given with it, and what is written overlaps with nothing else that the call is
 // lent.
+//
+// Each matches its answer, and does not take the number from `laws::comes_to`, as it writes what an accepted call gives.
 #![tactic(auto)]
 
 ghost use Rattle.schedule.specs.Schedule.{schedule_of};
@@ -15,6 +17,7 @@ use sets::Set;
 
 // Writes the text of the schedule of these tables to the start of `text`, and its length to `used`. The interface for
 // C fixes the parameters.
+#[tactic(auto, unfolding(writer::specs::Answers::write_answer, laws::specs::Answer::answer, laws::specs::Answer::place_after))]
 #[unsafe(no_mangle)]
 pub extern "C" fn fcwfa_write_schedule(
     n: usize,
@@ -44,7 +47,7 @@ pub extern "C" fn fcwfa_write_schedule(
 }
 
 // Reads a text into the first n entries of three tables of 64: `read` gets n and t at its first two places,
-// or the line of a refusal at its third.
+// or the line of a refusal at its third. The interface for C fixes the parameters.
 #[unsafe(no_mangle)]
 pub extern "C" fn fcwfa_read_schedule(
     text: &[u8],

@@ -15,8 +15,8 @@ use member::Rule;
 use schedule::Tables;
 use sets::Set;
 
-// The kind of a reason; where no rule is named, the process crashed. A function, as no `From` can be made for types
-// that are all of other crates.
+// The kind of a reason; where no rule is named, the process crashed. A function of this crate, and no `From`
+// beside the type: the numbers and their order are the C interface's.
 fn kind(rule: Rule) -> usize
     ensures is { result ≡ kind_of rule }
 {
@@ -31,7 +31,9 @@ fn kind(rule: Rule) -> usize
 }
 
 // Why the process with this number decided in the run of the schedule of these tables: `why` gets the kind of
-// the reason and the number that goes with it. The interface for C fixes the parameters.
+// the reason and the number that goes with it. The interface for C fixes the parameters. The answer is matched, and its
+// number not taken from `laws::comes_to`, as the reason of an accepted call is written.
+#[tactic(auto, unfolding(explanation::specs::Answers::why_answer, laws::specs::Answer::answer, laws::specs::Answer::place_after))]
 #[unsafe(no_mangle)]
 pub extern "C" fn fcwfa_why(
     n: usize,

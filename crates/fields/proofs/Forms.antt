@@ -20,6 +20,11 @@ pub digit_test : (b : ℕ) → is_ascii_digit b ≡ is_digit b
 unfolding is_digit within
 digit_test b = refl
 
+-- the 0 in place of a byte that isn't there
+pub none_no_digit : is_digit 0 ≡ false
+unfolding is_digit within
+none_no_digit = refl
+
 pub digit_within : (b : ℕ) → is_digit b ≡ true → (letter 0 ≤ b) × (b ≤ letter 9)
 unfolding is_digit
 digit_within b e = (within_low (letter 0) b (letter 9) e, within_high (letter 0) b (letter 9) e)

@@ -52,10 +52,11 @@ pub fn number_field(text: &[u8], end: u8) -> Option<Field<u8>>
     ensures read { field_is text.now result ≡ number_field end text.now }
     ensures within { field_within text.now result }
 {
-    let first = text.first().copied().unwrap_or(0);
+    let &first = text.first()?;
     if !first.is_ascii_digit() {
         return None;
     }
+    // A text may end after its first byte: no second byte is no digit.
     let second = text.get(1).copied().unwrap_or(0);
     if !second.is_ascii_digit() {
         return ended(text, end, first - b'0', 1);
@@ -71,7 +72,7 @@ pub fn digit_field(text: &[u8], end: u8) -> Option<Field<u8>>
     ensures read { field_is text.now result ≡ digit_field end text.now }
     ensures within { field_within text.now result }
 {
-    let digit = text.first().copied().unwrap_or(0);
+    let &digit = text.first()?;
     if !digit.is_ascii_digit() {
         return None;
     }

@@ -57,6 +57,8 @@ pub fn read_head(text: &[u8]) -> Result<Sizes, RefusedLine>
     let Some(sizes) = read_sizes(from(text, line_start(text, 1))) else {
         return Err(refused_by(Question::LineForm, 2));
     };
+    // Not by `map_err`: the question would come back through a closure's clauses, and the proof of that, which was
+    // tried, did not close.
     if let Err(question) = member::size_question(sizes.n, sizes.t) {
         return Err(refused_by(question, 2));
     }

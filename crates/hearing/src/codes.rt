@@ -17,8 +17,7 @@ struct Pair {
     above: u8,
 }
 
-// The code `code`, the one after it, and what is above both, in a row that is short enough for the counts. The codes
-// are read by their places: over the codes themselves a whole run was measured 7 percent slower.
+// The code `code`, the one after it, and what is above both, in a row that is short enough for the counts.
 fn pair_in(row: &[u8], code: u8) -> Pair
     requires short { length row.now ≤ 255 }
     requires room { code < 255 }
@@ -30,8 +29,7 @@ fn pair_in(row: &[u8], code: u8) -> Pair
     let mut lower: u8 = 0;
     let mut upper: u8 = 0;
     let mut above: u8 = 0;
-    for i in 0..row.len() {
-        let heard = row[i];
+    for &heard in row {
         lower += bit(heard == code);
         upper += bit(heard == next);
         above += bit(next < heard);

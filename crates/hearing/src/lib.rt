@@ -19,7 +19,7 @@ ghost use Rattle.member.specs.Questions.{hear_question};
 ghost use Rattle.member.specs.Answers.{hear_answer, explain_answer};
 
 use crate::heard::HeardRow;
-use laws::{Question, Refused};
+use laws::{Question, Refused, refused_by};
 use member::{Member, Reason, is_stopped, say};
 
 // The questions of hearing a row, and the row with its counts where each is answered by yes. A saying is refused
@@ -56,7 +56,7 @@ pub fn hear(m: Member, row: &[u8]) -> Result<Member, Refused<Member>>
             let next = rules::next(&heard);
             Ok(silent::with_silent(next, set))
         }
-        Err(question) => Err(Refused { question, back: m }),
+        Err(question) => Err(refused_by(question, m)),
     }
 }
 

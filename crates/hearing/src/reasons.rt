@@ -13,7 +13,8 @@ fn is_decision(code: u8) -> bool
     code == 3 || code == 4
 }
 
-// The place of the first decided message of a row, its length if there is none.
+// The place of the first decided message of a row. The row's length stands for none, and not an `Option`: the definition
+// `lowest_sender` has it so.
 fn lowest_sender(row: &[u8]) -> usize
     ensures found { result ≡ lowest_sender row.now }
 {

@@ -5,7 +5,7 @@ ghost use Rattle.member.specs.Hearing.{sets_silent, silent_after, with_silent};
 
 use crate::codes::is_told;
 use crate::heard::HeardRow;
-use crate::zeros::zero_places;
+use crate::zeros::{Untold, zero_places};
 use member::{Member, Tally};
 use sets::Set;
 
@@ -36,7 +36,7 @@ pub fn silent_after(heard: &HeardRow) -> Set
     if estimates as usize == row.len() {
         return 0;
     }
-    zero_places(row)
+    zero_places(&Untold { codes: row })
 }
 
 // A state with another silent set.

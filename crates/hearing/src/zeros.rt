@@ -11,11 +11,12 @@ ghost use Rattle.sets.specs.Sets.{set_of};
 use laws::bit;
 use sets::Set;
 
-// A byte as wide as a set.
-fn wide(byte: u8) -> Set
-    ensures same { result ≡ byte }
-{
-    byte as Set
+// A row whose codes are all at most 2, so without a decided message, and no longer than a set has bits.
+#[derive(Clone, Copy)]
+pub struct Untold<'a> {
+    pub codes: &'a [u8],
+    ghost short: { length codes.now ≤ largest },
+    ghost low: { (j : ℕ) → j < length codes.now → get_or codes.now j 0 ≤ 2 },
 }
 
 // Four codes as one number, a byte for each.
@@ -35,26 +36,23 @@ fn four(row: &[u8], at: usize) -> Set
 
 // The places among eight at which 0 stands. The four later codes come beside the four earlier ones, each
 // in the upper half of a byte.
-fn eight(row: &[u8], at: usize) -> Set
-    requires here { at + 8 ≤ length row.now }
-    requires low { (j : ℕ) → j < length row.now → get_or row.now j 0 ≤ 2 }
-    ensures gathered { result ≡ set_of 8 (λ k. Below·bit (eqb (get_or row.now (at + k) 0) 0)) }
+fn eight(row: &Untold, at: usize) -> Set
+    requires here { at + 8 ≤ length row.now.codes.now }
+    ensures gathered { result ≡ set_of 8 (λ k. Below·bit (eqb (get_or row.now.codes.now (at + k) 0) 0)) }
 {
-    let codes = four(row, at) + four(row, at + 4) * 16;
-    let zeros = (0x22222222 - codes) & 0x22222222;
+    let halves = four(row.codes, at) + four(row.codes, at + 4) * 16;
+    let zeros = (0x22222222 - halves) & 0x22222222;
     zeros * 0x204081 / 0x400000 % 256
 }
 
 // The set of the places among the whole eights of a row. The place is counted in a `while`: with a `for` over the
 // eights a whole run was measured a sixth slower.
-fn eights(row: &[u8]) -> Set
-    requires short { length row.now ≤ largest }
-    requires low { (j : ℕ) → j < length row.now → get_or row.now j 0 ≤ 2 }
-    ensures named { result ≡ set_of (length row.now - length row.now % 8) (λ j. Below·bit (eqb (get_or row.now j 0) 0)) }
+fn eights(row: &Untold) -> Set
+    ensures named { let codes = row.now.codes.now in result ≡ set_of (length codes - length codes % 8) (λ j. Below·bit (eqb (get_or codes j 0) 0)) }
 {
     let mut set: Set = 0;
     let mut i: usize = 0;
-    while 8 <= row.len() - i {
+    while 8 <= row.codes.len() - i {
         set += eight(row, i) << (i as Set);
         i += 8;
     }
@@ -62,25 +60,22 @@ fn eights(row: &[u8]) -> Set
 }
 
 // The same place by place, for a row that is too short for an eight.
-fn one_by_one(row: &[u8]) -> Set
-    requires short { length row.now ≤ largest }
-    ensures named { result ≡ set_of (length row.now) (λ j. Below·bit (eqb (get_or row.now j 0) 0)) }
+fn one_by_one(row: &Untold) -> Set
+    ensures named { result ≡ set_of (length row.now.codes.now) (λ j. Below·bit (eqb (get_or row.now.codes.now j 0) 0)) }
 {
     let mut set: Set = 0;
-    for (i, &code) in row.iter().enumerate() {
-        set += wide(bit(code == 0)) << (i as Set);
+    for (i, &code) in row.codes.iter().enumerate() {
+        set += Set::from(bit(code == 0)) << (i as Set);
     }
     set
 }
 
 // The set of the places of a row at which 0 stands. What is left after the whole eights is the end of
 // the last eight places.
-pub fn zero_places(row: &[u8]) -> Set
-    requires short { length row.now ≤ largest }
-    requires low { (j : ℕ) → j < length row.now → get_or row.now j 0 ≤ 2 }
-    ensures named { result ≡ set_of (length row.now) (λ j. Below·bit (eqb (get_or row.now j 0) 0)) }
+pub fn zero_places(row: &Untold) -> Set
+    ensures named { result ≡ set_of (length row.now.codes.now) (λ j. Below·bit (eqb (get_or row.now.codes.now j 0) 0)) }
 {
-    let n = row.len();
+    let n = row.codes.len();
     if n < 8 {
         return one_by_one(row);
     }

@@ -10,3 +10,4 @@ pub mod Answer
 pub mod Refusals
 pub mod Filled
 pub mod Overwritten
+pub mod Numbered

@@ -4,3 +4,4 @@ pub mod Answer
 pub mod Filled
 pub mod Quoted
 pub mod Question
+pub mod Numbered

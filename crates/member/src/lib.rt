@@ -49,7 +49,8 @@ pub struct Tally {
 }
 
 // The rule by which an undecided member decides: told by a decided message, zeros only in round 2, a
-// quiet round, enough estimates in round t, the last round, or none.
+// quiet round, enough estimates in round t, the last round, or none. None is a variant, and not the lack of one: it has a
+// number for C and a word in a line of reasons as the others have.
 #[derive(Clone, Copy)]
 pub enum Rule {
     Told,
@@ -61,14 +62,15 @@ pub enum Rule {
 }
 
 // Why a member decides: the rule, and the number that goes with it. Without a decision the rule is none, and
-// the number that of the crash round, where one is known.
+// the number that of the crash round, where one is known. The number stands beside the rule and not in its variants: the C
+// interface writes the two apart, and a crash round goes with no rule.
 #[derive(Clone, Copy)]
 pub struct Reason {
     pub rule: Rule,
     pub number: u8,
 }
 
-// The state of a new member.
+// The state of a new member. What it takes stands side by side, as in the call for C.
 pub fn open(n: usize, t: usize, id: usize, vote: u8) -> Result<Member, Question>
     ensures answered { answer_is result ≡ open_answer largest n t id vote }
 {

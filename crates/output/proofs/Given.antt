@@ -1,5 +1,5 @@
--- What an accepted schedule's run gives: its counts and tables are those of the report, each decision is 0, 1 or 2, and printing what is given prints
--- the report; and so with its outcome and the reasons of its processes. Assumes nothing.
+-- What an accepted schedule's run gives: each process has a reason, each decision is 0, 1 or 2, and printing the counts and tables that are given prints
+-- the report, as printing an outcome that is given prints that of the schedule. Assumes nothing.
 use mathlib.Core.Path.{◌≡◌, ap, ap₂, ◌∙◌}
 use mathlib.Core.Logic.{inl, inr}
 use mathlib.Core.List.{List}
@@ -9,53 +9,31 @@ use native.Mathlib.Omega.{arith}
 use borrow.Author.Tests.{eqb-true, eqb-false}
 use lib.ListN.{length, get_or}
 use lib.Dec.{eqb}
-use Rattle.laws.specs.Answer.{Answer, accepted, ask, place_after}
+use Rattle.laws.specs.Answer.{Answer, accepted, ask}
 use Rattle.laws.proofs.Test.{true_or_false, cond_true, within_is}
-use Rattle.laws.proofs.Lists.{length_tabulate, read_same}
-use Rattle.laws.proofs.Answer.{answer_accepted, and_then_passes, value_or, place_given}
+use Rattle.laws.proofs.Lists.{read_same}
+use Rattle.laws.proofs.Answer.{answer_accepted, and_then_passes, value_or}
 use Rattle.schedule.specs.Schedule.{Schedule}
 use Rattle.schedule.specs.Questions.{question}
 use Rattle.schedule.proofs.Accepted.{question_accepted}
 use Rattle.run.specs.Protocol.{Protocol, fcwfa}
-use Rattle.run.specs.Run.{final}
-use Rattle.run.specs.Report.{Report, round_of, decision_of, report}
+use Rattle.run.specs.Report.{Report, report}
 use Rattle.run.specs.Why.{why_of}
 use Rattle.run.proofs.Theorem.{accepted_run}
 use Rattle.explanation.specs.Answers.{why_question, why_answer}
 use Rattle.simulator.specs.declared.Counts.{Counts}
 use Rattle.simulator.specs.declared.Outcome.{Outcome}
-use Rattle.simulator.specs.Answers.{counts_of, given_by, simulate_question, simulate_answer, outcome_of, outcome_answer}
+use Rattle.simulator.specs.Answers.{counts_of, given_by, outcome_of}
 use Rattle.text.specs.Output.{report_text, outcome_text, outcome_shown}
 use Rattle.report.specs.Shown.{are_decisions}
 use Rattle.report.proofs.Decisions as Decisions
 
-module _ (limit : ℕ) (s : Schedule) (decisions rounds : List ℕ) (passed : simulate_question limit s decisions rounds ≡ 0) where
-  pub counts_given : (P : Protocol) → simulate_answer P limit s decisions rounds ≡ accepted (counts_of (report P s))
-  unfolding simulate_answer
-  counts_given P = answer_accepted _ _ _ passed
-
-  pub table_given : (given lent : List ℕ) → place_after (simulate_question limit s decisions rounds) given lent ≡ given
-  table_given given lent = place_given _ given lent passed
-
--- an accepted schedule has an outcome
-pub outcome_given : (P : Protocol) (limit : ℕ) (s : Schedule) → question s limit true ≡ 0 → outcome_answer P limit s ≡ accepted (outcome_of P s)
-unfolding outcome_answer
-outcome_given P limit s passed = answer_accepted _ _ _ passed
-
--- and each of its processes a reason
+-- each process of an accepted schedule has a reason
 pub reason_given : (limit : ℕ) (s : Schedule) (i : ℕ) → question s limit true ≡ 0 → i < s.n → why_answer limit s (i + 1) ≡ accepted (why_of s i)
 unfolding why_question why_answer ask
 reason_given limit s i passed l =
     answer_accepted _ _ _ (and_then_passes _ _ passed (cond_true _ _ _ (within_is 1 (i + 1) s.n (omega arith) (omega arith))))
     ∙ ap (λ (j : ℕ). accepted (why_of s j)) (omega arith)
-
--- the tables of a report have an entry for each process
-module _ (P : Protocol) (s : Schedule) where
-  pub decisions_long : length (report P s).decisions ≡ s.n
-  decisions_long = length_tabulate s.n (decision_of (final P s))
-
-  pub rounds_long : length (report P s).rounds ≡ s.n
-  rounds_long = length_tabulate s.n (round_of (final P s))
 
 -- FCWFA decides 0 or 1
 module _ (s : Schedule) (limit : ℕ) (answers : Bool) (passed : question s limit answers ≡ 0) where

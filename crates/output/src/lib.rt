@@ -30,7 +30,8 @@ pub struct Output {
 }
 
 // What is wanted of an accepted text: the program `bench` prints its report, `outcome` its outcome, and `why`
-// the reasons of its processes. The contracts name it, as no closure could be named in its place.
+// the reasons of its processes. With a closure in its place the contracts could say no more than the closure's own
+// contract says.
 #[derive(Clone, Copy)]
 pub enum Wanted {
     Report,

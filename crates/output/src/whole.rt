@@ -1,13 +1,14 @@
 // The kinds of output: the report, the outcome and the reasons of an accepted schedule, and a refusal.
-ghost use Rattle.std.specs.Prelude.{◌≡◌, true, ◌≤◌, length, take};
+ghost use Rattle.std.specs.Prelude.{◌≡◌, List, ℕ, true, ◌≤◌, length, take};
 ghost use Rattle.lines.specs.Lines.{line_of};
-ghost use Rattle.laws.specs.Question.{number_of};
+ghost use Rattle.laws.specs.Question.{question_number};
 ghost use Rattle.sets.specs.Largest.{largest};
 ghost use Rattle.schedule.specs.Schedule.{schedule_of, schedule_lent};
 ghost use Rattle.schedule.specs.Questions.{answers_of, question};
 ghost use Rattle.run.specs.Protocol.{fcwfa};
 ghost use Rattle.text.specs.Reading.{longest};
 ghost use Rattle.text.specs.Output.{report_shown, outcome_shown, reasons_shown, refusal_text};
+ghost use Rattle.buffer.specs.Puts.{Puts};
 ghost use Rattle.output.specs.Answers.{zeros, output_size, output_is, shown_of};
 
 use crate::reasons::put_reasons;
@@ -27,28 +28,37 @@ fn blank_output() -> [u8; OUTPUT]
     [0u8; OUTPUT]
 }
 
-// The report of a schedule; the answer tables are lent for its run.
-fn completed(schedule: &Accepted, decisions: &mut [u8], decided: &mut [u8]) -> Output
-    requires long { answers_of schedule.now.tables.n (length decisions.old) (length decided.old) ≡ true }
-    ensures output { result ≡ output_is (report_shown fcwfa (schedule_lent schedule.now.tables)) }
-    ensures fits { result.length ≤ output_size }
+// The output that a closure puts into a blank buffer, where it fits. A closure that holds a schedule, whose type names a
+// lifetime, tells nothing here of what it puts.
+fn written<F: FnOnce(&mut Writer)>(put: F) -> Output
+    requires callable { F.IsAlwaysCallable put }
+    ensures output { (part : List ℕ) → ((before after : _) → F.post put before tt after → Puts before.now after.now part) → length part ≤ output_size → result ≡ output_is part }
 {
-    let tables = &schedule.tables;
     let mut bytes = blank_output();
-    let counts = simulator::simulate(tables, decisions, decided).unwrap();
     let mut out = Writer {
         buffer: &mut bytes,
         at: 0,
     };
-    put_report(&mut out, tables.t, counts, &decisions[..], &decided[..]);
+    put(&mut out);
     let length = out.at;
     Output { bytes, length }
 }
 
+// The report of a schedule; the answer tables are lent for its run.
+fn completed(schedule: &Accepted, decisions: &mut [u8], decided: &mut [u8]) -> Output
+    requires long { answers_of schedule.now.tables.n (length decisions.old) (length decided.old) ≡ true }
+    ensures output { result ≡ output_is (report_shown fcwfa (schedule_lent schedule.now.tables)) }
+{
+    let counts = simulator::simulate(&schedule.tables, decisions, decided).unwrap();
+    // By itself, as the closure may not hold the schedule.
+    let t = schedule.tables.t;
+    written(|out| put_report(out, t, counts, decisions, decided))
+}
+
 // The same, with tables of its own.
+#[tactic(auto, using(crate::proofs::Given::n_small))]
 fn reported(schedule: &Accepted) -> Output
     ensures output { result ≡ output_is (report_shown fcwfa (schedule_lent schedule.now.tables)) }
-    ensures fits { result.length ≤ output_size }
 {
     let n = schedule.tables.n;
     let mut decisions: [u8; WIDTH] = blank_table();
@@ -59,23 +69,14 @@ fn reported(schedule: &Accepted) -> Output
 // The outcome of a schedule.
 fn concluded(schedule: &Accepted) -> Output
     ensures output { result ≡ output_is (outcome_shown fcwfa (schedule_lent schedule.now.tables)) }
-    ensures fits { result.length ≤ output_size }
 {
-    let mut bytes = blank_output();
     let outcome = simulator::conclude(&schedule.tables).unwrap();
-    let mut out = Writer {
-        buffer: &mut bytes,
-        at: 0,
-    };
-    put_outcome(&mut out, outcome);
-    let length = out.at;
-    Output { bytes, length }
+    written(|out| put_outcome(out, outcome))
 }
 
-// The reasons of a schedule.
+// The reasons of a schedule. Not by `written`, as the closure would hold the schedule.
 fn explained(schedule: &Accepted) -> Output
     ensures output { result ≡ output_is (reasons_shown (schedule_lent schedule.now.tables)) }
-    ensures fits { result.length ≤ output_size }
 {
     let mut bytes = blank_output();
     let mut out = Writer {
@@ -99,7 +100,6 @@ pub fn of_tables(
     requires size { sizes.n ≤ largest }
     requires accepted { question (schedule_of sizes.n sizes.t (take sizes.n votes) (take sizes.n crashes) (take sizes.n reaches)) largest true ≡ 0 }
     ensures output { result ≡ output_is (shown_of wanted (schedule_of sizes.n sizes.t (take sizes.n votes) (take sizes.n crashes) (take sizes.n reaches))) }
-    ensures fits { result.length ≤ output_size }
 {
     let n = sizes.n;
     let tables = Tables {
@@ -120,17 +120,10 @@ pub fn of_tables(
 // The three lines of a refusal, the last of which is the line of the text that it is about.
 pub fn refused(text: &[u8], refusal: RefusedLine) -> Output
     requires short { length (line_of refusal.back text.now) ≤ longest }
-    ensures output { result ≡ output_is (refusal_text (number_of refusal.question) refusal.back (line_of refusal.back text.now)) }
-    ensures fits { result.length ≤ output_size }
+    ensures output { result ≡ output_is (refusal_text (question_number refusal.question) refusal.back (line_of refusal.back text.now)) }
 {
-    let mut bytes = blank_output();
     let k = refusal.back;
     let number = u8::from(refusal.question);
-    let mut out = Writer {
-        buffer: &mut bytes,
-        at: 0,
-    };
-    put_refusal(&mut out, number, k, lines::line(text, k));
-    let length = out.at;
-    Output { bytes, length }
+    let line = lines::line(text, k);
+    written(|out| put_refusal(out, number, k, line))
 }

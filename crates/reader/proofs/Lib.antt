@@ -1,4 +1,3 @@
-pub mod InOrder
 pub mod Entries
 pub mod Whole
 pub mod Texts

@@ -1,69 +1,56 @@
 -- The whole reading: the questions of the text are those of its head and those of the rest, and the tables are filled with the schedule of the text
 -- exactly where all of them are passed. Assumes nothing.
-use mathlib.Core.Path.{◌≡◌, refl, sym, ap, ap₂, ◌∙◌}
+use mathlib.Core.Path.{◌≡◌, sym, ap, ap₂, ◌∙◌}
 use mathlib.Core.Logic.{inl, inr}
 use mathlib.Core.List.{List, ◌++◌}
 use mathlib.Core.Bool.{true, false}
 use Prim.Native.Nat.{ℕ, ◌≤◌}
 use native.Mathlib.Omega.{arith}
-use lib.ListN.{length, get_or, take, drop}
-use lib.Seq.{length-take-le}
+use lib.ListN.{length, take, drop}
+use Rattle.std.specs.Prelude.{Ok, Err}
 use Rattle.sets.specs.Largest.{largest}
 use Rattle.laws.specs.Below.{tabulate}
-use Rattle.laws.specs.Filled.{Overwritten}
 use Rattle.laws.specs.Answer.{ask, Answer, accepted, refused, answer, and_next, next_each}
 use Rattle.laws.proofs.Answer.{passed, value_or, not_accepted, and_next_passes, and_next_refused, and_next_accepted, and_next_either}
 use Rattle.laws.proofs.Test.{within_high}
 use Rattle.laws.proofs.Filled.{filled_take}
+use Rattle.laws.proofs.Lists.{length_tabulate}
+use Rattle.laws.specs.Question.{question_number}
+use Rattle.laws.specs.declared.question.Refused.{Refused}
 use Rattle.schedule.specs.Questions.{tables_of}
 use Rattle.text.specs.declared.Sizes.{Sizes}
-use Rattle.text.specs.Reading.{on_line, sizes_in, entry_in, schedule_in, entry_questions, text_questions, tail_questions, rest_questions, head_questions}
+use Rattle.text.specs.Reading.{longest, on_line, sizes_in, entry_in, schedule_in, entry_questions, text_questions, tail_questions, rest_questions, head_questions}
 use Rattle.text.proofs.Accepted.{line_passed}
-use Rattle.reader.specs.Answers.{given_or, filled, read_questions, read_answer, table_after}
-use Rattle.reader.specs.Parts.{Table}
+use Rattle.reader.specs.Answers.{given_or, filled, read_questions, read_answer, table_after, Reads}
+use Rattle.reader.specs.Parts.{Table, EntriesRead, Fills}
+use Rattle.reader.specs.declared.tables.Entries.{Entries}
 
--- What is given, and what is kept.
-module _ {A B : Type 0} {q : Answer (Unit {0}) B} (given kept : A) where
-  pub gives : q ≡ accepted tt → given ≡ given_or q given kept
-  gives e = sym (ap (λ (x : Answer (Unit {0}) B). given_or x given kept) e)
-
-  pub keeps : {number : ℕ} {back : B} → q ≡ refused number back → kept ≡ given_or q given kept
-  keeps e = sym (ap (λ (x : Answer (Unit {0}) B). given_or x given kept) e)
-
--- a table whose first n entries are copied from one that holds these entries
-pub filled_with : (n : ℕ) (own lent read : List ℕ) {after : List ℕ} → n ≤ length own → take n own ≡ read → Overwritten n (λ i. get_or own i 0) lent after
-    → after ≡ filled read lent
-filled_with n own lent read l e h =
-    let long : n ≡ length read = sym (length-take-le n own l) ∙ ap length e in
-    let front : tabulate n (λ i. get_or own i 0) ≡ read = sym (filled_take l (record { long = refl; at = λ k b. refl })) ∙ e in
-    h.is ∙ ap₂ (λ (entries : List ℕ) (k : ℕ). entries ++ drop k lent) front long
-
-module _ (text : List ℕ) (n t : ℕ) (en : (sizes_in text).n ≡ n) (et : (sizes_in text).t ≡ t) where
+-- The questions of the lines, and what was read there, by the sizes of the text.
+module _ (text : List ℕ) (s : Sizes) (same : sizes_in text ≡ s) where
   -- the questions of the lines refuse
-  pub lines_refuse : {number k : ℕ} → next_each n (entry_questions text) ≡ refused number k → rest_questions text ≡ refused number k
+  pub lines_refuse : {number k : ℕ} → next_each s.n (entry_questions text) ≡ refused number k → rest_questions text ≡ refused number k
   unfolding rest_questions
-  lines_refuse {number} {k} e = and_next_refused _ _ number k (ap (λ (m : ℕ). next_each m (entry_questions text)) en ∙ e)
+  lines_refuse {number} {k} e = and_next_refused _ _ number k (ap (λ (x : Sizes). next_each x.n (entry_questions text)) same ∙ e)
 
-  -- they are passed, and what is asked after them is the answer
-  pub lines_pass : next_each n (entry_questions text) ≡ accepted tt → (own : List ℕ) → own ≡ (schedule_in text).crashes → tail_questions text n t own ≡ rest_questions text
-  unfolding rest_questions
-  lines_pass e own same =
-      ap (tail_questions text n t) same
-      ∙ sym (ap₂ (λ (m r : ℕ). tail_questions text m r (schedule_in text).crashes) en et)
-      ∙ sym (and_next_passes _ _ (ap (λ (m : ℕ). next_each m (entry_questions text)) en ∙ e))
+  module _ (small : s.n ≤ largest) where
+    -- the first n entries of a table that was read
+    front_read : {own : List ℕ} (f : ℕ → ℕ) → Table s.n own f → take s.n own ≡ tabulate (sizes_in text).n f
+    front_read f h = filled_take small h ∙ ap (λ (x : Sizes). tabulate x.n f) (sym same)
 
-  -- the tables that were read are those of the schedule of the text
-  pub read_votes : (own : List ℕ) → n ≤ largest → Table n own (λ i. (entry_in text i).vote) → take n own ≡ (schedule_in text).votes
-  unfolding schedule_in
-  read_votes own l h = filled_take l h ∙ ap (λ (m : ℕ). tabulate m (λ i. (entry_in text i).vote)) (sym en)
+    -- the lines are passed, and what is asked after them is the answer
+    pub lines_pass : next_each s.n (entry_questions text) ≡ accepted tt → {own : List ℕ} → Table s.n own (λ i. (entry_in text i).crash)
+        → tail_questions text s.n s.t (take s.n own) ≡ rest_questions text
+    unfolding rest_questions schedule_in
+    lines_pass e h =
+        ap (tail_questions text s.n s.t) (front_read (λ i. (entry_in text i).crash) h)
+        ∙ sym (ap (λ (x : Sizes). tail_questions text x.n x.t (schedule_in text).crashes) same)
+        ∙ sym (and_next_passes _ _ (ap (λ (x : Sizes). next_each x.n (entry_questions text)) same ∙ e))
 
-  pub read_crashes : (own : List ℕ) → n ≤ largest → Table n own (λ i. (entry_in text i).crash) → take n own ≡ (schedule_in text).crashes
-  unfolding schedule_in
-  read_crashes own l h = filled_take l h ∙ ap (λ (m : ℕ). tabulate m (λ i. (entry_in text i).crash)) (sym en)
-
-  pub read_reaches : (own : List ℕ) → n ≤ largest → Table n own (λ i. (entry_in text i).reach) → take n own ≡ (schedule_in text).reaches
-  unfolding schedule_in
-  read_reaches own l h = filled_take l h ∙ ap (λ (m : ℕ). tabulate m (λ i. (entry_in text i).reach)) (sym en)
+    -- a lent table that was filled with the first n entries of one that was read
+    pub filled_so : {own after : List ℕ} (f : ℕ → ℕ) (lent : List ℕ) → Table s.n own f → after ≡ take s.n own ++ drop s.n lent → after ≡ filled (tabulate (sizes_in text).n f) lent
+    filled_so f lent h e =
+        let n : s.n ≡ length (tabulate (sizes_in text).n f) = sym (length_tabulate (sizes_in text).n f ∙ ap (λ (x : Sizes). x.n) same) in
+        e ∙ ap₂ (λ (entries : List ℕ) (k : ℕ). entries ++ drop k lent) (front_read f h) n
 
 -- The head's questions, with the sizes as their answer.
 module _ (text : List ℕ) (limit most : ℕ) where
@@ -114,19 +101,34 @@ module _ (text : List ℕ) (limit most : ℕ) where
           let n : (sizes_in text).n ≡ s.n = ap (λ (x : Sizes). x.n) same in
           (parts ∙ and_next_passes _ _ p.0, same, omega arith)
 
-    -- what is then answered
-    pub read_refused : {number k : ℕ} → asked ≡ refused number k → refused number k ≡ read_answer limit most text votes crashes reaches
-    unfolding read_answer
-    read_refused {number} {k} e = sym (and_next_refused _ _ number k e)
-
     pub read_accepted : asked ≡ accepted tt → accepted (sizes_in text) ≡ read_answer limit most text votes crashes reaches
     unfolding read_answer
     read_accepted e = sym (and_next_passes _ _ e)
 
-    pub table_kept : {number k : ℕ} → asked ≡ refused number k → (read lent : List ℕ) → lent ≡ table_after limit most text votes crashes reaches read lent
-    unfolding table_after
-    table_kept e read lent = keeps _ _ e
+-- A call that refuses, and one that reads.
+module _ (text votes crashes reaches : List ℕ) where
+  pub refuses : (refusal : Refused ℕ) → asked text largest longest votes crashes reaches ≡ refused (question_number refusal.question) refusal.back
+      → Reads text votes crashes reaches (Err refusal) votes crashes reaches
+  unfolding read_answer table_after
+  refuses refusal e =
+      let kept : (read lent : List ℕ) → lent ≡ given_or (asked text largest longest votes crashes reaches) (filled read lent) lent =
+      λ read lent. sym (ap (λ (q : Answer (Unit {0}) ℕ). given_or q (filled read lent) lent) e) in
+      record { answered = sym (and_next_refused _ _ _ _ e); votes_read = kept _ _; crashes_read = kept _ _; reaches_read = kept _ _ }
 
-    pub table_read : asked ≡ rest_questions text → (read lent : List ℕ) → given_or (rest_questions text) (filled read lent) lent ≡ table_after limit most text votes crashes reaches read lent
+  module _ (s : Sizes) (same : sizes_in text ≡ s) (small : s.n ≤ largest) (e : asked text largest longest votes crashes reaches ≡ accepted tt) where
+    given : {own after : List ℕ} (f : ℕ → ℕ) (lent : List ℕ) → Table s.n own f → after ≡ take s.n own ++ drop s.n lent
+        → after ≡ table_after largest longest text votes crashes reaches (tabulate (sizes_in text).n f) lent
     unfolding table_after
-    table_read e read lent = sym (ap (λ (x : Answer (Unit {0}) ℕ). given_or x (filled read lent) lent) e)
+    given f lent h filling =
+        filled_so text s same small f lent h filling
+        ∙ sym (ap (λ (q : Answer (Unit {0}) ℕ). given_or q (filled (tabulate (sizes_in text).n f) lent) lent) e)
+
+    pub reads : {entries : Entries} → EntriesRead text s.n entries → {votes_now crashes_now reaches_now : List ℕ}
+        → Fills s.n entries votes crashes reaches votes_now crashes_now reaches_now → Reads text votes crashes reaches (Ok s) votes_now crashes_now reaches_now
+    unfolding read_answer schedule_in
+    reads read fills = record {
+      answered = ap accepted (sym same) ∙ read_accepted text largest longest votes crashes reaches e;
+      votes_read = given (λ i. (entry_in text i).vote) votes read.0 fills.votes_filled;
+      crashes_read = given (λ i. (entry_in text i).crash) crashes read.1 fills.crashes_filled;
+      reaches_read = given (λ i. (entry_in text i).reach) reaches read.2 fills.reaches_filled;
+    }

@@ -6,19 +6,20 @@
 #![tactic(auto)]
 
 mod parts;
-mod rest;
 mod tables;
 
 ghost use Rattle.reader.specs.Answers.{Reads};
 
-use crate::rest::read_rest;
+use crate::parts::{read_processes, read_tail};
+use crate::tables::{Entries, fill};
 use acceptance::are_of_size;
 use forms::{RefusedLine, read_head};
 use laws::{Question, refused_by};
-use sets::{Set, WIDTH};
+use sets::{Set, WIDTH, blank_table};
 use text::Sizes;
 
-// Reads a text into three tables, and answers its sizes.
+// Reads a text into three tables, and answers its sizes. Number 7 is known only after the last line, so the lines are
+// read into entries of the function's own.
 pub fn read(
     text: &[u8],
     votes: &mut [u8],
@@ -31,6 +32,13 @@ pub fn read(
         return Err(refused_by(Question::Tables, 0));
     }
     let sizes = read_head(text)?;
-    read_rest(text, sizes, votes, crashes, reaches)?;
+    let mut entries = Entries {
+        votes: blank_table(),
+        crashes: blank_table(),
+        reaches: blank_table(),
+    };
+    read_processes(text, sizes, &mut entries)?;
+    read_tail(text, sizes, &entries)?;
+    fill(sizes.n, &entries, votes, crashes, reaches);
     Ok(sizes)
 }

@@ -10,7 +10,7 @@ use lib.ListN.{length, get_or}
 use lib.Dec.{leb}
 use Rattle.std.specs.Bool.{MatchBool}
 use Rattle.std.specs.List.{AllWithin, HoldsAt}
-use Rattle.laws.proofs.Test.{true_or_false}
+use Rattle.laws.proofs.Test.{true_or_false, cond_true, cond_false}
 use Rattle.laws.proofs.Counting.{count_of_all, count_full}
 use Rattle.simulator.specs.declared.Counts.{Counts}
 use Rattle.simulator.specs.declared.Outcome.{Outcome}
@@ -56,8 +56,8 @@ module _ (t : ℕ) (counts : Counts) (decisions rounds : List ℕ) where
 module _ (outcome : Outcome) where
   pub written_outcome_lem : outcome.decision ≤ 2 → written_outcome outcome ≡ outcome_text outcome.decision outcome.round
   unfolding written_outcome
-  written_outcome_lem l = rw (le-leb outcome.decision 2 l)
+  written_outcome_lem l = cond_true _ _ _ (le-leb outcome.decision _ (omega arith))
 
   pub no_outcome_written : 2 < outcome.decision → [] ≡ written_outcome outcome
   unfolding written_outcome
-  no_outcome_written l = rw (lt-leb outcome.decision 2 l)
+  no_outcome_written l = sym (cond_false _ _ _ (lt-leb outcome.decision _ (omega arith)))

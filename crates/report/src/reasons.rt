@@ -8,6 +8,7 @@ use lines::LF;
 use member::{Reason, Rule};
 
 // Writes the word for a rule.
+#[tactic(auto, unfolding(text::specs::Output::rule_word))]
 fn put_word(out: &mut Writer, rule: Rule)
     ensures written { Puts out.old out.new (rule_word rule) }
 {
@@ -22,6 +23,7 @@ fn put_word(out: &mut Writer, rule: Rule)
 }
 
 // Writes the number that goes with a rule, at the end of a line, and `-` for a rule that has none.
+#[tactic(auto, unfolding(text::specs::Output::number_shown))]
 fn put_number(out: &mut Writer, rule: Rule, number: u8)
     ensures written { Puts out.old out.new (number_shown rule number) }
 {

@@ -21,7 +21,8 @@ pub const WIDTH: usize = 64;
 // A set of processes.
 pub type Set = u64;
 
-// How many of n processes a set has bits for, and a table entries.
+// How many of n processes a set has bits for, and a table entries. It goes by a test: by the library's `min` a whole run
+// was measured to take 3 percent more instructions.
 pub fn fitting(n: usize) -> usize
     ensures fit { result ≡ Largest·fitting n }
 {

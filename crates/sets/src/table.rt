@@ -4,7 +4,8 @@ ghost use Rattle.sets.specs.Largest.{largest};
 
 use crate::{Set, WIDTH};
 
-// What stands in a table. At a place that nobody has, past the table's end too, the blank entry is read.
+// What stands in a table. At a place that nobody has, past the table's end too, the blank entry is read. It is named
+// here, since contracts speak of it: the library's `Default` says what holds of a value, and names none.
 pub trait Blank: Copy {
     ghost blank: { Self };
 

@@ -7,7 +7,7 @@ use lib.Dec.{eqb}
 use Rattle.std.specs.Prelude.{Ok, Err}
 use Rattle.laws.specs.Answer.{accepted}
 use Rattle.laws.specs.declared.question.Question.{Question}
-use Rattle.laws.specs.Question.{number_of}
+use Rattle.laws.specs.Question.{question_number}
 use Rattle.laws.proofs.Answer.{accepted_is, value_or, not_accepted}
 use Rattle.laws.proofs.Refusals.{is_refused, is_accepted}
 use Rattle.sets.specs.Largest.{largest}
@@ -23,7 +23,7 @@ use Rattle.simulator.specs.declared.Outcome.{Outcome}
 use Rattle.simulator.specs.Answers.{outcome_of, outcome_answer, Concludes}
 
 -- A call that is refused by a question.
-pub refused_concludes : (s : Schedule) (q : Question) → number_of q ≡ question s largest true → Concludes s (Err q)
+pub refused_concludes : (s : Schedule) (q : Question) → question_number q ≡ question s largest true → Concludes s (Err q)
 unfolding outcome_answer
 refused_concludes s q asked = record {
   answered = is_refused q _ _ tt asked;

@@ -10,7 +10,7 @@ use Rattle.laws.specs.Below.{tabulate}
 use Rattle.laws.specs.Answer.{accepted, refused, place_after}
 use Rattle.laws.proofs.Lists.{length_tabulate, tabulate_same}
 use Rattle.laws.specs.declared.question.Question.{Question}
-use Rattle.laws.specs.Question.{number_of, answer_is}
+use Rattle.laws.specs.Question.{question_number, answer_is}
 use Rattle.laws.proofs.Answer.{value_or, not_accepted, place_given, place_kept}
 use Rattle.laws.proofs.Refusals.{not_zero, is_refused, is_accepted}
 use Rattle.std.specs.Prelude.{Ok, Err}
@@ -34,8 +34,8 @@ use Rattle.simulator.specs.declared.Counts.{Counts}
 use Rattle.simulator.specs.Answers.{counts_of, simulate_question, simulate_answer, decisions_after, rounds_after, given_by, AnswersKeepPromises}
 
 -- A call that is refused by a question.
-module _ (P : Protocol) (s : Schedule) (decisions rounds : List ℕ) (q : Question) (asked : number_of q ≡ simulate_question largest s decisions rounds) where
-  pub refused_answer : refused (number_of q) tt ≡ simulate_answer P largest s decisions rounds
+module _ (P : Protocol) (s : Schedule) (decisions rounds : List ℕ) (q : Question) (asked : question_number q ≡ simulate_question largest s decisions rounds) where
+  pub refused_answer : refused (question_number q) tt ≡ simulate_answer P largest s decisions rounds
   unfolding simulate_answer
   refused_answer = is_refused q _ _ tt asked
 

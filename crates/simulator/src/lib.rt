@@ -11,6 +11,7 @@ mod tables;
 ghost use Rattle.schedule.specs.Schedule.{schedule_lent};
 ghost use Rattle.simulator.specs.Answers.{Simulates, Concludes};
 
+use acceptance::AnswerLengths;
 use execution::{play_rounds, play_to_decision};
 use laws::Question;
 use schedule::Tables;
@@ -42,7 +43,11 @@ pub fn simulate(
 ) -> Result<Counts, Question>
     ensures simulated { Simulates (schedule_lent tables.now) decisions.old rounds.old result decisions.new rounds.new }
 {
-    let ran = play_rounds(tables, decisions.len(), rounds.len(), WIDTH)?;
+    let answers = AnswerLengths {
+        decisions: decisions.len(),
+        rounds: rounds.len(),
+    };
+    let ran = play_rounds(tables, answers, WIDTH)?;
     tables::fill(ran.members, decisions, rounds);
     Ok(tables::counts_of(tables.t, tables.crashes, &rounds[..], ran.messages))
 }

@@ -23,6 +23,7 @@ pub fn fill(members: [Member; WIDTH], decisions: &mut [u8], rounds: &mut [u8])
     ensures timed { rounds.new ≡ tabulate (length rounds.old) (round_of members) }
 {
     let n = decisions.len();
+    // The loop has the place beside the member, at which two tables are entered: a zip of three is no plainer.
     for (i, &m) in members[..n].iter().enumerate() {
         decisions[i] = decision(m);
         rounds[i] = m.decided;

@@ -1,16 +1,15 @@
 -- What `write` answers, question by question: a table question that is not passed gives its number; then a buffer that is too short gives 18; and what is
 -- written into one that is long enough is the text, with what stood behind it. Assumes nothing.
 use mathlib.Core.Path.{◌≡◌, sym, ap, ◌∙◌}
-use mathlib.Core.Logic.{◌≢◌}
 use mathlib.Core.List.{List}
 use mathlib.Core.Bool.{true}
 use Prim.Native.Nat.{ℕ, ◌≤◌, ◌<◌}
 use native.Mathlib.Omega.{arith}
-use borrow.Author.Tests.{eq-eqb, ne_eqb, le-leb, lt-leb, leb-true}
+use borrow.Author.Tests.{eq-eqb, le-leb, lt-leb, leb-true}
 use lib.ListN.{length}
 use Rattle.std.specs.Prelude.{Ok, Err}
 use Rattle.laws.specs.Answer.{ask, and_then, accepted}
-use Rattle.laws.specs.Question.{number_of}
+use Rattle.laws.specs.Question.{question_number}
 use Rattle.laws.specs.declared.question.Question.{Question}
 use Rattle.laws.proofs.Answer.{passed, and_then_went_on, answer_accepted, place_given, place_kept}
 use Rattle.laws.proofs.Refusals.{not_zero, is_refused}
@@ -23,10 +22,6 @@ use Rattle.buffer.proofs.Written.{written_front}
 use Rattle.writer.specs.Answers.{write_question, write_answer, WritesSchedule}
 
 module _ (limit : ℕ) (s : Schedule) (buffer : List ℕ) where
-  pub tables_refuse : question s limit true ≢ 0 → write_question limit s buffer ≡ question s limit true
-  unfolding write_question and_then
-  tables_refuse h = rw (ne_eqb (question s limit true) 0 h)
-
   module _ (asked : question s limit true ≡ 0) where
     pub too_short : length buffer < length (text_of s) → write_question limit s buffer ≡ 18
     unfolding write_question and_then ask
@@ -45,7 +40,7 @@ module _ (limit : ℕ) (s : Schedule) (buffer : List ℕ) where
 
 -- A call that refuses, and one that writes.
 module _ (s : Schedule) (buffer : List ℕ) where
-  pub refuses : (q : Question) → number_of q ≡ write_question largest s buffer → WritesSchedule s buffer (Err q) buffer
+  pub refuses : (q : Question) → question_number q ≡ write_question largest s buffer → WritesSchedule s buffer (Err q) buffer
   unfolding write_answer
   refuses q e = record {
     answered = is_refused q (write_question largest s buffer) (length (text_of s)) tt e;

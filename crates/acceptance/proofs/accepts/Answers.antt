@@ -4,7 +4,6 @@ use Rattle.laws.proofs.Refusals.{answer_due}
 use Rattle.sets.specs.Largest.{largest}
 use Rattle.schedule.specs.Schedule.{schedule_lent}
 use Rattle.schedule.specs.Questions.{question}
-use Rattle.schedule.proofs.Accepted.{answers_long}
 use Rattle.acceptance.specs.Answers.{accept_answer}
 use Rattle.acceptance.proofs.accepts.Goals as goal
 
@@ -12,4 +11,4 @@ pub returns : goal.returns
 unfolding accept_answer
 returns c =
     let s = schedule_lent c.args.tables.now in
-    record { answered = answer_due _ _ tt (c.question.ensures.asked ∙ ap (question s largest) (answers_long s.n s.n s.n refl refl)) (λ x e. refl) }
+    record { answered = answer_due _ _ tt (c.question.ensures.asked ∙ ap (question s largest) c.no_answers.ensures.long) (λ x e. refl) }

@@ -1,20 +1,16 @@
 -- `question` meets its contract: each question that is passed goes on to the next. Assumes nothing.
 use Rattle.std.proofs.Common.{◌≡◌, ℕ, Bool, true, ◌&&◌, sym, refl, ap, ◌∙◌, length}
 use Rattle.std.proofs.lemmas.Result.{err_from_is_err_and}
-use native.Mathlib.Omega.{arith}
-use borrow.Author.Tests.{le-leb, lt-leb}
 use lib.Dec.{leb}
 use Rattle.laws.specs.Answer.{ask}
 use Rattle.laws.proofs.Refusals.{not_zero}
 use Rattle.laws.proofs.Test.{and_goes_on, and_no_left}
-use Rattle.sets.specs.Largest.{largest}
 use Rattle.schedule.specs.Schedule.{Schedule, schedule_lent, crashes_in}
-use Rattle.schedule.specs.Questions.{tables_long, answers_of, question}
+use Rattle.schedule.specs.Questions.{tables_long, answers_of}
 use Rattle.schedule.proofs.Accepted.{table_lengths}
-use Rattle.schedule.proofs.Counting.{count_facts}
 use Rattle.acceptance.proofs.InOrder.{number_of_sizes, number_3, number_of_process, past_processes}
 use Rattle.acceptance.proofs.question.Goals as goal
-use Rattle.acceptance.proofs.question.Goals.{After-crash_count-counted, Else-not-are_answers_long, Else-not-are_of_size, In_ok-size_question}
+use Rattle.acceptance.proofs.question.Goals.{Else-not-are_answers_long, Else-not-are_of_size, In_ok-size_question}
 
 pub returns-in_err-size_question : goal.returns-in_err-size_question
 returns-in_err-size_question c =
@@ -26,7 +22,7 @@ abbrev given : In_ok-size_question → Schedule
 given c = schedule_lent c.args.tables.now
 
 abbrev answers : In_ok-size_question → Bool
-answers c = let a = c.args in answers_of a.tables.now.n a.decisions a.rounds
+answers c = let a = c.args in answers_of a.tables.now.n a.answers.decisions a.answers.rounds
 
 pub returns-then-not-are_of_size : goal.returns-then-not-are_of_size
 returns-then-not-are_of_size c =
@@ -67,24 +63,14 @@ returns-in_err-processes_question c =
           (all_long (goal.at.returns-in_err-processes_question c).Else-not-are_answers_long) _ c.in_err-processes_question.ensures.asked (not_zero _));
     }
 
--- past the first six questions; the table of crash rounds is n long, so the count answers question 7
-up_to_7 : (c : After-crash_count-counted) → let at = (goal.at.After-crash_count-counted c).In_ok-size_question in
-    question (given at) largest (answers at) ≡ ask (leb c.crash_count-counted.result.count (given at).t) 7 0
-up_to_7 c =
-    let s = schedule_lent c.args.tables.now in
-    let few =
-    ap (λ (n : ℕ). leb (crashes_in n s.crashes) s.t) (sym (lengths (goal.at.After-crash_count-counted c).Else-not-are_of_size).1)
-    ∙ (count_facts s.t s.crashes).asks_7
-    ∙ ap (λ (k : ℕ). leb k s.t) (sym c.crash_count-counted.ensures.counted) in
-    past_processes s _ _ _ c.in_ok-size_question.ensures.asked refl (all_long (goal.at.After-crash_count-counted c).Else-not-are_answers_long) _ c.in_ok-processes_question.ensures.asked refl
-    ∙ ap (λ (b : Bool). ask b 7 0) few
-
-pub returns-then-t-counted : goal.returns-then-t-counted
-unfolding ask
-returns-then-t-counted c =
-    record { asked = rw (up_to_7 (goal.at.returns-then-t-counted c).After-crash_count-counted, lt-leb c.crash_count-counted.result.count c.args.tables.now.t (omega arith)) }
-
+-- past the first six questions the seventh is left, of the n entries of the table of crash rounds
 pub returns : goal.returns
-unfolding ask
 returns c =
-    record { asked = rw (up_to_7 (goal.at.returns c).After-crash_count-counted, le-leb c.crash_count-counted.result.count c.args.tables.now.t (omega arith)) }
+    let s = schedule_lent c.args.tables.now in
+    let at = goal.at.returns c in
+    record {
+      asked =
+          c.crashes_question.ensures.asked
+          ∙ ap (λ (n : ℕ). ask (leb (crashes_in n s.crashes) s.t) 7 0) (lengths at.Else-not-are_of_size).1
+          ∙ sym (past_processes s _ _ _ c.in_ok-size_question.ensures.asked refl (all_long at.Else-not-are_answers_long) _ c.in_ok-processes_question.ensures.asked refl);
+    }

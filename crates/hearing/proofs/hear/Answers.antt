@@ -12,4 +12,4 @@ returns-in-Ok c =
 pub returns-in-Err : goal.returns-in-Err
 unfolding hear_answer
 returns-in-Err c =
-    record { answered = is_refused _ _ _ _ c.in-Err.ensures.asked }
+    record { answered = rw c.refused_by.ensures.is (is_refused _ _ _ _ c.in-Err.ensures.asked) }

@@ -1,29 +1,21 @@
--- `read` meets its contract: what the tables, the head and the rest of the text answer, in order, is the answer. Assumes nothing.
-use Rattle.std.proofs.Common.{◌≡◌, ◌≤◌, true, sym, ap, ◌∙◌, length}
+-- `read` meets its contract: what the tables, the head, the lines of the processes and the end of the text answer, in order, is the answer. Assumes nothing.
+use Rattle.std.proofs.Common.{◌≡◌, ◌≤◌, true, sym, ◌∙◌, length}
 use Rattle.std.proofs.lemmas.Result.{err_from_is_err_and}
-use Rattle.laws.specs.Answer.{accepted}
-use Rattle.laws.specs.Question.{answer_with_is}
+use lib.ListN.{take}
+use native.Mathlib.Omega.{arith}
 use Rattle.sets.specs.Largest.{largest}
 use Rattle.schedule.specs.Questions.{tables_of}
 use Rattle.schedule.proofs.Accepted.{all_of_size}
-use Rattle.text.specs.Reading.{longest, sizes_in, rest_questions}
+use Rattle.text.specs.Reading.{longest, sizes_in, tail_questions, rest_questions}
 use Rattle.reader.specs.Answers.{read_questions}
-use Rattle.reader.proofs.Whole.{tables_refuse, head_refused, head_passed, read_refused, read_accepted, table_kept, table_read}
+use Rattle.reader.proofs.Whole.{tables_refuse, head_refused, head_passed, lines_refuse, lines_pass, refuses, reads}
 use Rattle.reader.proofs.read.Goals as goal
-use Rattle.reader.proofs.read.Goals.{After-read_rest, Else-not-are_of_size, In_ok-sizes}
+use Rattle.reader.proofs.read.Goals.{Else-not-are_of_size, In_ok-sizes, In_ok-read_processes}
 
 pub returns-then-not-are_of_size : goal.returns-then-not-are_of_size
 returns-then-not-are_of_size c =
-    record {
-      read = let a = c.args in
-          let e = tables_refuse a.text.now largest longest a.votes.now a.crashes.now a.reaches.now (sym c.if-not-are_of_size.ensures.tested) in
-          record {
-            answered = rw c.refused_by.ensures.is (read_refused _ _ _ _ _ _ e);
-            votes_read = table_kept _ _ _ _ _ _ e _ _;
-            crashes_read = table_kept _ _ _ _ _ _ e _ _;
-            reaches_read = table_kept _ _ _ _ _ _ e _ _;
-          };
-    }
+    let a = c.args in
+    record { read = rw c.refused_by.ensures.is (refuses _ _ _ _ _ (tables_refuse a.text.now largest longest a.votes.now a.crashes.now a.reaches.now (sym c.if-not-are_of_size.ensures.tested))) }
 
 -- the tables are of their size
 sized : (c : Else-not-are_of_size) → let a = c.args in tables_of largest (length a.votes.now) (length a.crashes.now) (length a.reaches.now) ≡ true
@@ -32,16 +24,9 @@ sized c = sym c.if-not-are_of_size.ensures.tested
 pub returns-in_err-sizes : goal.returns-in_err-sizes
 returns-in_err-sizes c =
     let p = err_from_is_err_and c.from_residual.result c.from_residual.ensures.1 in
-    record {
-      read = let a = c.args in
-          let e = head_refused a.text.now largest longest a.votes.now a.crashes.now a.reaches.now (sized (goal.at.returns-in_err-sizes c).Else-not-are_of_size) c.in_err-sizes.ensures.asked in
-          record {
-            answered = rw (p.1, p.2) (read_refused _ _ _ _ _ _ e);
-            votes_read = table_kept _ _ _ _ _ _ e _ _;
-            crashes_read = table_kept _ _ _ _ _ _ e _ _;
-            reaches_read = table_kept _ _ _ _ _ _ e _ _;
-          };
-    }
+    let a = c.args in
+    let e = head_refused a.text.now largest longest a.votes.now a.crashes.now a.reaches.now (sized (goal.at.returns-in_err-sizes c).Else-not-are_of_size) c.in_err-sizes.ensures.asked in
+    record { read = rw (p.1, p.2) (refuses _ _ _ _ _ e) }
 
 -- the sizes are those of the text, and what is left to ask are the questions of the rest
 passed_head : (c : In_ok-sizes) → let a = c.args in let text = a.text.now in
@@ -52,42 +37,42 @@ passed_head c =
     let a = c.args in
     head_passed a.text.now largest longest a.votes.now a.crashes.now a.reaches.now (sized (goal.at.In_ok-sizes c).Else-not-are_of_size) c.in_ok-sizes.ensures.asked
 
-pub read_rest-requires : goal.read_rest-requires
-read_rest-requires c =
-    let at = goal.at.read_rest-requires c in
-    let p = passed_head at.In_ok-sizes in
-    record { sizes = (p.2, p.1); long = all_of_size largest _ _ _ (sized at.Else-not-are_of_size) }
+pub read_processes-requires : goal.read_processes-requires
+read_processes-requires c =
+    let p = passed_head (goal.at.read_processes-requires c).In_ok-sizes in
+    record { sizes = (p.2, p.1) }
 
--- what the rest answers is answered, and the tables are as it left them
-answered_by_rest : (c : After-read_rest) → let a = c.args in answer_with_is c.read_rest.result ≡ read_questions largest longest a.text.now a.votes.now a.crashes.now a.reaches.now
-answered_by_rest c = c.read_rest.ensures.read.asked ∙ sym (passed_head (goal.at.After-read_rest c).In_ok-sizes).0
+pub returns-in_err-read_processes : goal.returns-in_err-read_processes
+returns-in_err-read_processes c =
+    let p = err_from_is_err_and c.from_residual-in_err-read_processes.result c.from_residual-in_err-read_processes.ensures.1 in
+    let h = passed_head (goal.at.returns-in_err-read_processes c).In_ok-sizes in
+    record { read = rw (p.1, p.2) (refuses _ _ _ _ _ (h.0 ∙ lines_refuse _ _ h.1 (sym c.in_err-read_processes.ensures.asked))) }
 
-pub returns-in_err-read_rest : goal.returns-in_err-read_rest
-returns-in_err-read_rest c =
-    let p = err_from_is_err_and c.from_residual-in_err-read_rest.result c.from_residual-in_err-read_rest.ensures.1 in
-    let at = goal.at.returns-in_err-read_rest c in
-    record {
-      read = let q = (passed_head at.In_ok-sizes).0 in
-          let e = sym (answered_by_rest at.After-read_rest) ∙ ap answer_with_is c.in_err-read_rest.was in
-          record {
-            answered = rw (p.1, p.2) (read_refused _ _ _ _ _ _ e);
-            votes_read = c.read_rest.ensures.read.votes_read ∙ table_read _ _ _ _ _ _ q _ _;
-            crashes_read = c.read_rest.ensures.read.crashes_read ∙ table_read _ _ _ _ _ _ q _ _;
-            reaches_read = c.read_rest.ensures.read.reaches_read ∙ table_read _ _ _ _ _ _ q _ _;
-          };
-    }
+pub read_tail-requires : goal.read_tail-requires
+read_tail-requires c =
+    record { size = (passed_head (goal.at.read_tail-requires c).In_ok-sizes).2 }
+
+-- the lines are passed, so what is asked after them is what is left
+tail_left : (c : In_ok-read_processes) → let a = c.args in let s = c.in_ok-sizes.sizes in
+    tail_questions a.text.now s.n s.t (take s.n c.read_processes.new.entries.crashes) ≡ read_questions largest longest a.text.now a.votes.now a.crashes.now a.reaches.now
+tail_left c =
+    let h = passed_head (goal.at.In_ok-read_processes c).In_ok-sizes in
+    lines_pass _ _ h.1 h.2 (sym c.in_ok-read_processes.ensures.asked) c.in_ok-read_processes.ensures.entries.1 ∙ sym h.0
+
+pub returns-in_err-read_tail : goal.returns-in_err-read_tail
+returns-in_err-read_tail c =
+    let p = err_from_is_err_and c.from_residual-in_err-read_tail.result c.from_residual-in_err-read_tail.ensures.1 in
+    record { read = rw (p.1, p.2) (refuses _ _ _ _ _ (sym (c.in_err-read_tail.ensures.asked ∙ tail_left (goal.at.returns-in_err-read_tail c).In_ok-read_processes))) }
+
+pub fill-requires : goal.fill-requires
+fill-requires c =
+    let at = goal.at.fill-requires c in
+    record { size = omega (arith, (passed_head at.In_ok-sizes).2); long = all_of_size largest _ _ _ (sized at.Else-not-are_of_size) }
 
 pub returns : goal.returns
 returns c =
     let at = goal.at.returns c in
+    let h = passed_head at.In_ok-sizes in
     record {
-      read = let h = passed_head at.In_ok-sizes in
-          let q = h.0 in
-          let e = sym (answered_by_rest at.After-read_rest) ∙ ap answer_with_is c.in_ok-read_rest.was in
-          record {
-            answered = ap accepted (sym h.1) ∙ read_accepted _ _ _ _ _ _ e;
-            votes_read = c.read_rest.ensures.read.votes_read ∙ table_read _ _ _ _ _ _ q _ _;
-            crashes_read = c.read_rest.ensures.read.crashes_read ∙ table_read _ _ _ _ _ _ q _ _;
-            reaches_read = c.read_rest.ensures.read.reaches_read ∙ table_read _ _ _ _ _ _ q _ _;
-          };
+      read = reads _ _ _ _ c.in_ok-sizes.sizes h.1 h.2 (sym (c.in_ok-read_tail.ensures.asked ∙ tail_left at.In_ok-read_processes)) c.in_ok-read_processes.ensures.entries c.fill.ensures.filled;
     }

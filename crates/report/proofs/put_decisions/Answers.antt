@@ -27,24 +27,24 @@ one_more decisions rounds i decision round l d r =
 pub loop-i-init : goal.loop-i-init
 loop-i-init c =
     let start : c.into_iter-i-iterator.result.count ≡ 0 = cc in
-    let left : c.into_iter-i-iterator.result.iter.a.rest.now ≡ c.args.decisions.now = cc in
-    let left_rounds : c.into_iter-i-iterator.result.iter.b.rest.now ≡ c.args.decided.now = cc in
+    let left : c.into_iter-i-iterator.result.iter.a.rest.now ≡ c.args.lent.now.decisions.now = cc in
+    let left_rounds : c.into_iter-i-iterator.result.iter.b.rest.now ≡ c.args.lent.now.decided.now = cc in
     rw start record { within = omega arith; left = left; left_rounds = left_rounds; written = puts_same (none _ _) (puts_none _) }
 
-pub put_decision-requires : goal.put_decision-requires
-put_decision-requires c =
+pub invariant_of-put_decision : goal.invariant_of-put_decision
+invariant_of-put_decision c =
     let step = c.in-Some.ensures.steps in
     let l = c.loop-i in
     let here = next_left _ l.i-iterator.count 0 _ _ (sym l.invariant.left ∙ step.0.0) in
-    let low = decisions_all _ c.requires.values l.i-iterator.count here.0 in
-    record { small = (step.3, omega (arith, low, here.1)) }
+    let low = decisions_all _ c.args.lent.now.values l.i-iterator.count here.0 in
+    record { one = omega (arith, low, here.1) }
 
 pub loop-i-preserved : goal.loop-i-preserved
 loop-i-preserved c =
     let step = c.in-Some.ensures.steps in
     let l = c.loop-i in
-    let here = next_left c.args.decisions.now l.i-iterator.count 0 _ _ (sym l.invariant.left ∙ step.0.0) in
-    let round = next_left c.args.decided.now l.i-iterator.count 0 _ _ (sym l.invariant.left_rounds ∙ step.0.1) in
+    let here = next_left c.args.lent.now.decisions.now l.i-iterator.count 0 _ _ (sym l.invariant.left ∙ step.0.0) in
+    let round = next_left c.args.lent.now.decided.now l.i-iterator.count 0 _ _ (sym l.invariant.left_rounds ∙ step.0.1) in
     rw step.2 record {
       within = omega (arith, here.0);
       left = here.2;

@@ -10,8 +10,8 @@ abbrev pub invariant-loop-i : goal.invariant-loop-i
 invariant-loop-i l =
     let i = l.i-iterator.count in
     record {
-      within : i ≤ length l.decisions;
-      left : l.i-iterator.iter.a.rest.now ≡ drop i l.decisions;
-      left_rounds : l.i-iterator.iter.b.rest.now ≡ drop i l.decided;
-      written : Puts l.initial.out l.out (decision_lines i l.decisions l.decided);
+      within : i ≤ length l.lent.decisions.now;
+      left : l.i-iterator.iter.a.rest.now ≡ drop i l.lent.decisions.now;
+      left_rounds : l.i-iterator.iter.b.rest.now ≡ drop i l.lent.decided.now;
+      written : Puts l.initial.out l.out (decision_lines i l.lent.decisions.now l.lent.decided.now);
     }

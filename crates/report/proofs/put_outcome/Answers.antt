@@ -6,8 +6,8 @@ use Rattle.buffer.proofs.Puts.{puts_none, puts_same, puts_more}
 use Rattle.report.proofs.Decisions.{written_outcome_lem, no_outcome_written}
 use Rattle.report.proofs.put_outcome.Goals as goal
 
-pub returns-then-decision-gt2 : goal.returns-then-decision-gt2
-returns-then-decision-gt2 c =
+pub returns-then-outcome-gt2 : goal.returns-then-outcome-gt2
+returns-then-outcome-gt2 c =
     record { written = puts_same (no_outcome_written _ (omega arith)) (puts_none _) }
 
 pub returns : goal.returns

@@ -2,26 +2,30 @@
 -- the ones of its reach, if it says something (Sent.antt). Assumes nothing.
 use mathlib.Core.Logic.{inl, inr}
 use mathlib.Core.Path.{◌∙◌, ap}
+use native.Mathlib.Nat.{le_trans, le_of_eq}
 use native.Mathlib.Omega.{arith}
 use lib.Count.{ones}
+use Rattle.sets.specs.Largest.{largest}
+use Rattle.sets.proofs.Theorem.{width_facts}
 use Rattle.delivery.proofs.Sent.{nothing_added, silence_added, reach_added}
 use Rattle.delivery.proofs.copies.crashing_copies.Goals as goal
 
-pub returns-then-crash-eq0 : goal.returns-then-crash-eq0
-returns-then-crash-eq0 c =
-    record { sent = let a = c.args in nothing_added a.round a.crash _ a.code (inl (omega arith)) }
+pub returns-then-crash-eq0-clause-sent : goal.returns-then-crash-eq0-clause-sent
+returns-then-crash-eq0-clause-sent c =
+    nothing_added _ _ _ _ (inl (omega arith))
 
-pub returns-then-crash-round : goal.returns-then-crash-round
-returns-then-crash-round c =
-    record { sent = let a = c.args in nothing_added a.round a.crash _ a.code (inr (λ e. omega arith)) }
+pub returns-then-crash-this_round-clause-sent : goal.returns-then-crash-this_round-clause-sent
+returns-then-crash-this_round-clause-sent c =
+    nothing_added _ _ _ _ (inr (λ same. omega arith))
 
-pub returns-then-code-eq0 : goal.returns-then-code-eq0
-returns-then-code-eq0 c =
-    record { sent = let a = c.args in silence_added a.round a.crash _ a.code (omega arith) }
+pub returns-then-code-eq0-clause-sent : goal.returns-then-code-eq0-clause-sent
+returns-then-code-eq0-clause-sent c =
+    silence_added _ _ _ _ (omega arith)
 
-pub returns-else-code-eq0 : goal.returns-else-code-eq0
-returns-else-code-eq0 c =
-    record {
-      sent = let a = c.args in
-          c.ones.ensures.counted ∙ ap ones c.entry_at-reach.ensures.entry ∙ reach_added a.round a.crash _ a.code (λ e. omega arith) (λ e. omega arith) (omega arith);
-    }
+pub returns-else-code-eq0-clause-sent : goal.returns-else-code-eq0-clause-sent
+returns-else-code-eq0-clause-sent c =
+    c.ones.ensures.counted ∙ ap ones c.entry_at-reach.ensures.entry ∙ reach_added _ _ _ _ (λ z. omega arith) (λ z. omega arith) (omega arith)
+
+pub returns-else-code-eq0-clause-few : goal.returns-else-code-eq0-clause-few
+returns-else-code-eq0-clause-few c =
+    le_trans (le_of_eq c.ones.ensures.counted) ((width_facts largest).few _ c.entry_at-reach.type_inv)

@@ -25,7 +25,8 @@ returns c =
     record {
       row = let l = c.loop-j in
           let a = c.args in
+          let r = a.this_round.now in
           let known = c.min-known in
           let end : l.j ≡ known.result = omega arith in
-          completing_rest a.round a.n known.result a.crashes.now a.codes.now l.row known.ensures (over_all l.invariant end) c.with_rest.ensures.whole;
+          completing_rest r.round a.size known.result r.crashes.now r.codes.now l.row known.ensures (over_all l.invariant end) c.with_rest.ensures.whole;
     }

@@ -9,4 +9,5 @@ use Rattle.delivery.proofs.rows.completing_row.Given as goal
 
 abbrev pub invariant-loop-j : goal.invariant-loop-j
 invariant-loop-j l =
-    Overwritten l.j (λ k. cond (completes_round l.round (get_or l.crashes k 0)) (get_or l.codes k 0) nothing) (replicate largest 0) l.row
+    let r = l.this_round in
+    Overwritten l.j (λ k. cond (completes_round r.round (get_or r.crashes.now k 0)) (get_or r.codes.now k 0) nothing) (replicate largest 0) l.row

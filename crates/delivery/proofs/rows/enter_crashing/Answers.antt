@@ -25,9 +25,10 @@ pub loop-i-preserved : goal.loop-i-preserved
 loop-i-preserved c =
     let a = c.args in
     let at = c.loop-i in
+    let code = get_or a.this_round.now.codes.now a.j 0 in
     let read = c.entry_at-reach.ensures.entry in
     over_more (omega arith) at.invariant
     (ap₂ (λ (row : List ℕ) (x : ℕ). set row a.j x) (over_past at.invariant at.i [] (omega arith))
-    (ap (λ (k : ℕ). get_or (0 ∷ a.code ∷ []) k 0) c.bit.ensures.counted
-    ∙ looked_up a.code c.is_named.result
-    ∙ ap (λ (b : Bool). cond b a.code nothing) (c.is_named.ensures.tested ∙ ap (λ (reach : ℕ). names reach at.i) read)))
+    (ap (λ (k : ℕ). get_or (0 ∷ code ∷ []) k 0) c.bit.ensures.counted
+    ∙ looked_up code c.is_named.result
+    ∙ ap (λ (b : Bool). cond b code nothing) (c.is_named.ensures.tested ∙ ap (λ (reach : ℕ). names reach at.i) read)))

@@ -10,4 +10,6 @@ use Rattle.member.specs.Saying.{nothing}
 use Rattle.delivery.proofs.rows.enter_crashing.Given as goal
 
 abbrev pub invariant-loop-i : goal.invariant-loop-i
-invariant-loop-i l = Overwritten l.i (λ (k : ℕ). set (get_or l.initial.grid k []) l.j (cond (names (get_or l.reaches l.j 0) k) l.code nothing)) l.initial.grid l.grid
+invariant-loop-i l =
+    let r = l.this_round in
+    Overwritten l.i (λ (k : ℕ). set (get_or l.initial.grid k []) l.j (cond (names (get_or r.reaches.now l.j 0) k) (get_or r.codes.now l.j 0) nothing)) l.initial.grid l.grid

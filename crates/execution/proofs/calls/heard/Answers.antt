@@ -1,22 +1,21 @@
 -- `heard` meets its contract: the state after an accepted row, and the same state after a refused one. Assumes nothing.
-use mathlib.Core.Path.{sym, ap, ◌∙◌}
+use mathlib.Core.Path.{◌∙◌}
 use Rattle.laws.proofs.Answer.{answer_given, answer_kept}
 use Rattle.member.specs.declared.Member.{Member}
 use Rattle.member.specs.Answers.{hear_answer}
-use Rattle.execution.specs.Calls.{calls}
 use Rattle.execution.proofs.Turns.{heard_in_range}
 use Rattle.execution.proofs.calls.heard.Goals as goal
 
+pub returns-in_default : goal.returns-in_default
+unfolding hear_answer
+returns-in_default c =
+    record { state = (answer_kept _ _ _ (λ (x : Member). x) _ c.in_default.ensures.answered).1 }
+
 pub in_turn-requires : goal.in_turn-requires
 in_turn-requires c =
-    record { in_range = heard_in_range c.args.m c.args.row.now c.in-Ok.ensures.answered }
+    record { in_range = heard_in_range c.args.before.state c.args.row.now c.in-Ok.ensures.answered }
 
-pub returns-in-Ok : goal.returns-in-Ok
+pub returns : goal.returns
 unfolding hear_answer
-returns-in-Ok c =
-    record { state = c.in_turn.ensures.state ∙ (answer_given _ _ _ (λ (x : Member). x) _ c.in-Ok.ensures.answered).1; said = c.in_turn.ensures.said ∙ ap calls.says (sym c.in_turn.ensures.state) }
-
-pub returns-in-Err : goal.returns-in-Err
-unfolding hear_answer
-returns-in-Err c =
-    record { state = (answer_kept _ _ _ (λ (x : Member). x) _ c.in-Err.ensures.answered).1; said = c.requires.said_before }
+returns c =
+    record { state = c.in_turn.ensures.state ∙ (answer_given _ _ _ (λ (x : Member). x) _ c.in-Ok.ensures.answered).1 }

@@ -1,5 +1,5 @@
 -- `in_turn` meets its contract: what a member in range says is one of the codes, and is not refused. Assumes nothing.
-use mathlib.Core.Path.{refl, ◌∙◌}
+use mathlib.Core.Path.{◌∙◌}
 use native.Mathlib.Omega.{arith}
 use Rattle.member.proofs.Range.{code_low}
 use Rattle.sets.specs.Largest.{largest}
@@ -12,6 +12,6 @@ overflow_cast-result c =
     let is = c.code.ensures.said in
     omega arith
 
-pub returns : goal.returns
-returns c =
-    record { state = refl; said = c.code.ensures.said ∙ in_range_says c.args.m c.requires.in_range }
+pub invariant_of-result : goal.invariant_of-result
+invariant_of-result c =
+    record { said = c.code.ensures.said ∙ in_range_says c.args.m c.requires.in_range }

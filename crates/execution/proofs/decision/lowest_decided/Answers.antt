@@ -39,7 +39,7 @@ pub returns : goal.returns
 returns c =
     record {
       found = let n = c.args.n in
-          let members = c.args.members in
+          let members = c.args.members.now in
           let found : MatchOption c.position.result (NoneBefore n members (omega arith) (length (take n members))) (λ i. (i < length (take n members)) × (round_at (take n members) i ≢ 0) × NoneBefore n members (omega arith) i) =
           search rules in
           c.unwrap_or.ensures ∙ lowest_found n members (omega arith) c.position.result found;

@@ -1,16 +1,13 @@
 -- `play` meets its contract: either grid has a row for each process. Assumes nothing.
-use mathlib.Core.Bool.{true}
 use mathlib.Core.Path.{◌≡◌, ap}
 use native.Mathlib.Omega.{arith}
 use lib.ListN.{length}
 use Rattle.sets.specs.Largest.{largest}
-use Rattle.schedule.specs.Schedule.{schedule_lent}
-use Rattle.schedule.proofs.Accepted.{question_accepted}
+use Rattle.execution.proofs.Given.{accepts}
 use Rattle.execution.proofs.play.play.Goals as goal
 
 pub play_on-requires-2 : goal.play_on-requires-2
 play_on-requires-2 c =
-    let a = c.args in
-    let n_high = (question_accepted (schedule_lent a.schedule.now.tables) largest true a.schedule.now.accepted).n_high in
+    let n_high = (accepts c.args.schedule.now).n_high in
     let rows : length c.blank_rows-grid-2.result ≡ largest = ap length c.blank_rows-grid-2.ensures.blank in
     record { rounds = c.requires.rounds; size = omega arith }

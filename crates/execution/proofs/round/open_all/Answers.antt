@@ -18,11 +18,11 @@ loop-i-preserved c =
     let at = c.loop-i in
     let inv = at.invariant in
     let long = length-replicate largest nobody in
-    let opened = c.opened-first.ensures in
-    let state = opened.state ∙ ap (calls.opening _ _ _) c.entry_at.ensures.entry in (
+    let opened = c.opened-first in
+    let state = opened.ensures.state ∙ ap (calls.opening _ _ _) c.entry_at.ensures.entry in (
       inv.0,
       over_more (omega arith) inv.1 state,
-      over_more (omega arith) inv.2 (opened.said ∙ ap calls.says state),
+      over_more (omega arith) inv.2 (opened.result.said ∙ ap calls.says state),
       inv.3,
     )
 

@@ -20,17 +20,15 @@ pub loop-i-init : goal.loop-i-init
 loop-i-init c =
     (c.fitting-size.ensures.fit, over_start refl, over_start refl, search rules, (let room = c.requires.room.1 in let same = c.fitting-size.ensures.fit in omega arith))
 
--- the member and the code at place i are those that were given
-member_here : (c : After-entry_at) → let l = c.loop-i in state_at l.members l.i ≡ state_at c.args.members l.i
+-- the member at place i is the one that was given
+member_here : (c : After-entry_at) → let l = c.loop-i in state_at l.members l.i ≡ state_at c.args.members.now l.i
 member_here c = let l = c.loop-i in over_past l.invariant.1 l.i nobody (omega arith)
 
-pub next_turn-turn-requires : goal.next_turn-turn-requires
-next_turn-turn-requires c =
+-- and so is the code, which is what that member says
+pub invariant_of-before : goal.invariant_of-before
+invariant_of-before c =
     record {
-      said_before = let l = c.loop-i in
-          over_past l.invariant.2 l.i 0 (omega arith)
-          ∙ c.requires.said_before l.i (omega arith)
-          ∙ ap calls.says (sym (member_here (goal.at.next_turn-turn-requires c).After-entry_at));
+      said = let l = c.loop-i in over_past l.invariant.2 l.i 0 (omega arith) ∙ c.requires.said_before l.i (omega arith) ∙ ap calls.says (sym (member_here c));
     }
 
 pub loop-i-preserved : goal.loop-i-preserved
@@ -38,15 +36,15 @@ loop-i-preserved c =
     let a = c.args in
     let size = c.fitting-size.result in
     let at = c.loop-i in
-    let turn = c.next_turn-turn.ensures in
+    let turn = c.next_turn-turn in
     let state =
-    turn.state
+    turn.ensures.state
     ∙ ap₂ (λ (crash : ℕ) (m : Member). state_after calls a.round crash m (take size (get_or c.deliver.new.grid at.i [])))
     c.entry_at.ensures.entry (member_here (goal.at.loop-i-preserved c).After-entry_at)
     in (
       at.invariant.0,
       over_more (omega arith) at.invariant.1 state,
-      over_more (omega arith) at.invariant.2 (turn.said ∙ ap calls.says state),
+      over_more (omega arith) at.invariant.2 (turn.result.said ∙ ap calls.says state),
       at.invariant.3,
       at.invariant.4,
     )

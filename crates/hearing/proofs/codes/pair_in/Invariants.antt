@@ -5,5 +5,5 @@ use lib.Dec.{eqb, ltb}
 use Rattle.hearing.proofs.Counted.{Counted}
 use Rattle.hearing.proofs.codes.pair_in.Given as goal
 
-abbrev pub invariant-loop-i : goal.invariant-loop-i
-invariant-loop-i l = (l.next ≡ l.code + 1) × Counted l.row (λ c. eqb c l.code) (λ c. eqb c l.next) (λ c. ltb l.next c) l.i l.lower l.upper l.above
+abbrev pub invariant-loop-heard : goal.invariant-loop-heard
+invariant-loop-heard l = (l.next ≡ l.code + 1) × Counted l.row (λ c. eqb c l.code) (λ c. eqb c l.next) (λ c. ltb l.next c) l.heard-index l.lower l.upper l.above

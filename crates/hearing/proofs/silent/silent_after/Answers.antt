@@ -42,9 +42,9 @@ returns-then-estimates-row c =
 low : (c : Else-not-is_set) → let a = c.args.heard.now in (j : ℕ) → j < length a.row.now → get_or a.row.now j 0 ≤ 2
 low c = let p = c.args.heard.now in plain_codes _ _ p.counted p.codes (sets _ _ (is_set c)).untold
 
-pub zero_places-requires : goal.zero_places-requires
-zero_places-requires c =
-    record { short = short c.args.heard.now; low = low (goal.at.zero_places-requires c).Else-not-is_set }
+pub invariant_of-zero_places : goal.invariant_of-zero_places
+invariant_of-zero_places c =
+    record { short = short c.args.heard.now; low = low (goal.at.invariant_of-zero_places c).Else-not-is_set }
 
 pub returns : goal.returns
 unfolding silent_after

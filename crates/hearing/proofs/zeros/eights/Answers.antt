@@ -16,14 +16,14 @@ loop-i-init c =
 -- eight places more
 more : (c : After-eight)
     → let l = c.loop-i in
-    l.set + (c.eight.result * 2 ^ l.i) % 2 ^ largest ≡ set_of (l.i + 8) (silent c.args.row.now)
+    l.set + (c.eight.result * 2 ^ l.i) % 2 ^ largest ≡ set_of (l.i + 8) (silent c.args.row.now.codes.now)
 more c =
     let l = c.loop-i in
-    added c.args.row.now l.i 8 l.set _ (omega arith) l.invariant.2 c.eight.ensures.gathered
+    added c.args.row.now.codes.now l.i 8 l.set _ (omega arith) l.invariant.2 c.eight.ensures.gathered
 
 pub overflow_add-set : goal.overflow_add-set
 overflow_add-set c =
-    omega (arith, more c, room c.args.row.now (c.loop-i.i + 8) (omega arith))
+    omega (arith, more c, room c.args.row.now.codes.now (c.loop-i.i + 8) (omega arith))
 
 pub loop-i-preserved : goal.loop-i-preserved
 loop-i-preserved c =

@@ -7,7 +7,7 @@ use Rattle.hearing.proofs.Places.{silent}
 use Rattle.hearing.proofs.zeros.eights.Given as goal
 
 abbrev pub invariant-loop-i : goal.invariant-loop-i
-invariant-loop-i l = (l.i ≤ length l.row) × (l.i % 8 ≡ 0) × (l.set ≡ set_of l.i (silent l.row))
+invariant-loop-i l = (l.i ≤ length l.row.codes.now) × (l.i % 8 ≡ 0) × (l.set ≡ set_of l.i (silent l.row.codes.now))
 
 abbrev pub decreases-loop-i : goal.decreases-loop-i
-decreases-loop-i l = length l.row - l.i
+decreases-loop-i l = length l.row.codes.now - l.i

@@ -5,4 +5,4 @@ use Rattle.hearing.proofs.Places.{silent}
 use Rattle.hearing.proofs.zeros.one_by_one.Given as goal
 
 abbrev pub invariant-loop-i : goal.invariant-loop-i
-invariant-loop-i l = l.set ≡ set_of l.i (silent l.row)
+invariant-loop-i l = l.set ≡ set_of l.i (silent l.row.codes.now)

@@ -5,17 +5,16 @@ use native.Mathlib.Omega.{arith}
 use borrow.Author.Rules.{rules}
 use Rattle.std.specs.Prelude.{Ok, is_ok}
 use Rattle.laws.specs.Question.{answer_is}
+use Rattle.laws.proofs.Answer.{answer_accepted}
 use Rattle.laws.proofs.Refusals.{ok_of}
-use Rattle.sets.specs.Largest.{largest}
 use Rattle.schedule.specs.Schedule.{Schedule, schedule_lent}
 use Rattle.run.specs.Protocol.{fcwfa}
-use Rattle.simulator.specs.Answers.{outcome_of}
+use Rattle.simulator.specs.Answers.{outcome_of, outcome_answer}
 use Rattle.output.specs.Answers.{output_is}
 use Rattle.report.proofs.Decisions.{written_outcome_lem}
-use Rattle.buffer.proofs.Written.{writes_same}
-use Rattle.output.proofs.Buffer.{written_output, lent_back}
+use Rattle.buffer.proofs.Puts.{puts_same}
 use Rattle.output.proofs.Lengths.{outcome_short}
-use Rattle.output.proofs.Given.{outcome_given, print_outcome}
+use Rattle.output.proofs.Given.{print_outcome}
 use Rattle.output.proofs.whole.concluded.Goals as goal
 use Rattle.output.proofs.whole.concluded.Goals.{After-conclude}
 
@@ -25,7 +24,8 @@ given c = schedule_lent c.args.schedule.now.tables
 
 -- it is accepted, so the simulator gives its outcome
 decided : (c : After-conclude) → c.conclude.result ≡ Ok (outcome_of fcwfa (given c))
-decided c = ok_of _ (c.conclude.ensures.concluded.answered ∙ outcome_given fcwfa largest (given c) c.args.schedule.now.accepted)
+unfolding outcome_answer
+decided c = ok_of _ (c.conclude.ensures.concluded.answered ∙ answer_accepted _ _ _ c.args.schedule.now.accepted)
 
 pub unwrap-outcome-requires : goal.unwrap-outcome-requires
 unwrap-outcome-requires c = ap is_ok (decided c)
@@ -36,5 +36,8 @@ returns c =
     let outcome = c.unwrap-outcome.result in
     let same = ap answer_is c.unwrap-outcome.ensures in
     let promised = (c.conclude.ensures.concluded.promises.kept outcome same).commit_or_abort in
-    let w = written_output _ _ _ _ c.blank_output-bytes.ensures.zeros (writes_same (written_outcome_lem outcome (omega arith)) c.put_outcome.ensures.written.writes) (outcome_short _ _ (search rules)) in
-    record { output = lent_back (search rules) c.put_outcome.new.out.at ∙ w.0 ∙ ap output_is (print_outcome fcwfa (given at) outcome (sym same ∙ ap answer_is (decided at))); fits = w.1 }
+    let short = outcome_short outcome.decision outcome.round (search rules) in
+    record {
+      output = c.written.ensures.output _ (λ before after put. puts_same (written_outcome_lem outcome (omega arith)) (search rules)) short
+          ∙ ap output_is (print_outcome fcwfa (given at) outcome (sym same ∙ ap answer_is (decided at)));
+    }

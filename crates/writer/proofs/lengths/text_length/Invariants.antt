@@ -11,6 +11,6 @@ use Rattle.writer.proofs.lengths.text_length.Given as goal
 
 abbrev pub invariant-loop-i : goal.invariant-loop-i
 invariant-loop-i l =
-    let s = schedule_lent l.tables in
+    let s = schedule_lent l.schedule.tables in
     (l.total ≤ 30 + 76 * l.i)
     × (l.total ≡ 26 + digit_count s.n + digit_count s.t + sum l.i (λ k. process_length s.n k (get_or s.votes k 0) (get_or s.crashes k 0)))

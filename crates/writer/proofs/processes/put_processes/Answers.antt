@@ -20,7 +20,7 @@ pub returns : goal.returns
 unfolding process_lines
 returns c =
     record {
-      written = let s = schedule_lent c.args.tables.now in
+      written = let s = schedule_lent c.args.schedule.now.tables in
           let all = ap (lines s.n s.votes s.crashes s.reaches) {x = c.loop-i.i} {y = s.n} (omega arith) in
           puts_same all c.loop-i.invariant;
     }

@@ -13,5 +13,5 @@ lines n votes crashes reaches i = each_line i (λ k. process_line n k (get_or vo
 
 abbrev pub invariant-loop-i : goal.invariant-loop-i
 invariant-loop-i l =
-    let s = schedule_lent l.tables in
+    let s = schedule_lent l.schedule.tables in
     Puts l.initial.out l.out (lines s.n s.votes s.crashes s.reaches l.i)
