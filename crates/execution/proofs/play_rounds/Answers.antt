@@ -1,5 +1,5 @@
 -- `play_rounds` meets its contract: an accepted schedule leaves what `play` gives (Whole.antt). Assumes nothing.
-use Rattle.std.proofs.Common.{ℕ, ◌+◌, sym, ap}
+use Rattle.std.proofs.Common.{ℕ, ◌+◌, sym}
 use Rattle.std.specs.Prelude.{min}
 use Rattle.std.proofs.lemmas.Result.{err_from_is_err_and}
 use mathlib.Core.Path.{subst}
@@ -24,12 +24,6 @@ overflow_add-tables c =
     let n_high = ok.n_high in
     let t_high = ok.rules.t_high in
     omega arith
-
-pub play-requires : goal.play-requires
-play-requires c =
-    let t = ap (λ (s : Schedule). s.t) c.in_ok-schedule.ensures.same in
-    let end = c.min-end.ensures in
-    record { rounds = omega arith }
 
 pub returns : goal.returns
 returns c =
