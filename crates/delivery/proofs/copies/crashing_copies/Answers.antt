@@ -2,11 +2,8 @@
 -- the ones of its reach, if it says something (Sent.antt). Assumes nothing.
 use mathlib.Core.Logic.{inl, inr}
 use mathlib.Core.Path.{◌∙◌, ap}
-use native.Mathlib.Nat.{le_trans, le_of_eq}
 use native.Mathlib.Omega.{arith}
 use lib.Count.{ones}
-use Rattle.sets.specs.Largest.{largest}
-use Rattle.sets.proofs.Theorem.{width_facts}
 use Rattle.delivery.proofs.Sent.{nothing_added, silence_added, reach_added}
 use Rattle.delivery.proofs.copies.crashing_copies.Goals as goal
 
@@ -25,7 +22,3 @@ returns-then-code-eq0-clause-sent c =
 pub returns-else-code-eq0-clause-sent : goal.returns-else-code-eq0-clause-sent
 returns-else-code-eq0-clause-sent c =
     c.ones.ensures.counted ∙ ap ones c.entry_at-reach.ensures.entry ∙ reach_added _ _ _ _ (λ z. omega arith) (λ z. omega arith) (omega arith)
-
-pub returns-else-code-eq0-clause-few : goal.returns-else-code-eq0-clause-few
-returns-else-code-eq0-clause-few c =
-    le_trans (le_of_eq c.ones.ensures.counted) ((width_facts largest).few _ c.entry_at-reach.type_inv)
