@@ -45,10 +45,6 @@ loop-i-init c =
     let none = sum_start (λ k. process_length a.n k (get_or a.votes k 0) (get_or a.crashes k 0)) in
     (omega arith, omega arith)
 
-pub process_length-total-requires : goal.process_length-total-requires
-process_length-total-requires c =
-    record { process = omega arith }
-
 pub overflow_add-total-in-loop-i : goal.overflow_add-total-in-loop-i
 overflow_add-total-in-loop-i c =
     omega (arith, (kept c.args.schedule.now).n_high)
