@@ -1,6 +1,6 @@
 -- All questions, in the order in which the documents number them: document 01 has 1 to 17, document 02 (K2) has 18.
 -- Proved in proofs/Numbered.antt: `numbered : Numbered`.
-use Rattle.std.specs.Prelude.{ℕ, ◌≡◌, List, [], ◌∷◌, map}
+use Rattle.std.specs.Prelude.{◌≡◌, List, [], ◌∷◌, map}
 use Rattle.laws.specs.Question.{question_number}
 use Rattle.laws.specs.declared.question.Question.{Question}
 use Rattle.laws.specs.declared.question.Question.TheVariants.{Size, Crashable, Tables, Vote, CrashRound, Reach, Crashes, TextLength, LineForm, OwnNumber, State, Stopped, RowLength, Code, OwnCode, ToldEarly, ToldBoth, Room}

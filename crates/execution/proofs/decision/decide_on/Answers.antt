@@ -7,7 +7,8 @@ use lib.ListN.{length}
 use Rattle.sets.specs.Largest.{largest}
 use Rattle.acceptance.specs.declared.accepted.Accepted.{Accepted}
 use Rattle.execution.specs.Calls.{calls}
-use Rattle.execution.proofs.Given.{given, accepts, promises, rounds_few}
+use Rattle.acceptance.proofs.Kept.{kept}
+use Rattle.execution.proofs.Given.{given, promises, rounds_few}
 use Rattle.execution.proofs.AllRounds.{starts, said_at, codes_long, goes_on}
 use Rattle.execution.proofs.Searching.{Searched, nothing_searched, round_left, searches_on, place_low, first_decides}
 use Rattle.execution.proofs.decision.decide_on.Goals as goal
@@ -24,7 +25,7 @@ module _ (schedule : Accepted) {place r : ℕ} (h : Searched (given schedule) pl
   -- somebody who is decided has a place in the array
   inside_array : (place ≡ (given schedule).n → ⊥) → place < largest
   inside_array some =
-      let n_high = (accepts schedule).n_high in
+      let n_high = (kept schedule).n_high in
       let low = place_low (given schedule) h some in
       omega arith
 
@@ -32,7 +33,7 @@ pub loop-place-init : goal.loop-place-init
 loop-place-init c =
     let a = c.args.schedule.now in
     let opened = c.open_all-members.ensures in
-    (starts calls (given a) (accepts a).n_high c.requires.size opened.opened c.blank_table-codes.ensures.blanks opened.said, nothing_searched (given a) (accepts a).rules, refl)
+    (starts calls (given a) (kept a).n_high c.requires.size opened.opened c.blank_table-codes.ensures.blanks opened.said, nothing_searched (given a) (kept a).rules, refl)
 
 pub overflow_add-round : goal.overflow_add-round
 overflow_add-round c =
@@ -45,7 +46,7 @@ overflow_cast-round c =
 pub play_round-requires : goal.play_round-requires
 play_round-requires c =
     let a = c.args.schedule.now in
-    let n_high = (accepts a).n_high in
+    let n_high = (kept a).n_high in
     let at = c.loop-place in
     let room = at.invariant.0.room in
     let long = codes_long calls (given a) n_high at.played at.invariant.0 in
@@ -53,7 +54,7 @@ play_round-requires c =
 
 pub lowest_decided-place-requires : goal.lowest_decided-place-requires
 lowest_decided-place-requires c =
-    record { size = (accepts c.args.schedule.now).n_high }
+    record { size = (kept c.args.schedule.now).n_high }
 
 pub overflow_add-played : goal.overflow_add-played
 overflow_add-played c =
@@ -62,19 +63,19 @@ overflow_add-played c =
 pub loop-place-smaller : goal.loop-place-smaller
 loop-place-smaller c =
     let a = c.args.schedule.now in
-    let left = round_left (given a) (accepts a).rules c.loop-place.invariant.1 c.loop-place-test.true in omega arith
+    let left = round_left (given a) (kept a).rules c.loop-place.invariant.1 c.loop-place-test.true in omega arith
 
 pub loop-place-preserved : goal.loop-place-preserved
 loop-place-preserved c =
     let a = c.args.schedule.now in
-    let n_high = (accepts a).n_high in
+    let n_high = (kept a).n_high in
     let at = c.loop-place in
     let round = c.play_round.ensures in
-    let kept = at.invariant.2 in
+    let as_long = at.invariant.2 in
     let long : length c.play_round.new.grid ≡ length at.grid = omega arith in
     let between = goes_on calls (given a) n_high at.played at.invariant.0 round.played round.said long in (
       between,
-      searches_on (given a) (accepts a).rules at.invariant.1 c.loop-place-test.true n_high (promises a).own_answers between.states c.lowest_decided-place.ensures.found,
+      searches_on (given a) (kept a).rules at.invariant.1 c.loop-place-test.true n_high (promises a).own_answers between.states c.lowest_decided-place.ensures.found,
       omega arith,
     )
 
@@ -94,4 +95,4 @@ pub returns : goal.returns
 returns c =
     let a = c.args.schedule.now in
     let inv = c.loop-place.invariant in
-    record { decided = first_decides (given a) (accepts a).rules inv.1 c.loop-place-test.false (accepts a).n_high (promises a).own_answers inv.0.states refl refl }
+    record { decided = first_decides (given a) (kept a).rules inv.1 c.loop-place-test.false (kept a).n_high (promises a).own_answers inv.0.states refl refl }

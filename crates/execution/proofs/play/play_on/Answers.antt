@@ -4,7 +4,8 @@ use mathlib.Core.Path.{refl, sym, ◌∙◌}
 use native.Mathlib.Omega.{arith}
 use Rattle.run.specs.Protocol.{fcwfa}
 use Rattle.execution.specs.Calls.{calls}
-use Rattle.execution.proofs.Given.{given, accepts, promises, rounds_few}
+use Rattle.acceptance.proofs.Kept.{kept}
+use Rattle.execution.proofs.Given.{given, promises, rounds_few}
 use Rattle.execution.proofs.AllRounds.{nothing_counted, starts, said_at, codes_long, goes_on, sent_in, counts_on, ends_last, ends_silent}
 use Rattle.execution.proofs.play.play_on.Goals as goal
 
@@ -12,7 +13,7 @@ pub loop-played-init : goal.loop-played-init
 loop-played-init c =
     let a = c.args.schedule.now in
     let opened = c.open_all-members.ensures in
-    (starts calls (given a) (accepts a).n_high c.requires.size opened.opened c.blank_table-codes.ensures.blanks opened.said, nothing_counted calls (given a) c.args.last, refl)
+    (starts calls (given a) (kept a).n_high c.requires.size opened.opened c.blank_table-codes.ensures.blanks opened.said, nothing_counted calls (given a) c.args.last, refl)
 
 pub overflow_cast-round : goal.overflow_cast-round
 overflow_cast-round c =
@@ -23,7 +24,7 @@ overflow_cast-round c =
 pub returns-then-sent-eq0 : goal.returns-then-sent-eq0
 returns-then-sent-eq0 c =
     let a = c.args.schedule.now in
-    let n_high = (accepts a).n_high in
+    let n_high = (kept a).n_high in
     let at = c.loop-played in
     let sent = sent_in calls (given a) n_high at.played at.invariant.0 c.message_count-sent.ensures.counted in
     record { played = ends_silent fcwfa (given a) n_high (promises a).own_answers c.requires.rounds at.invariant.0.states at.invariant.1 (promises a).silence (omega arith) (sym sent ∙ c.if-sent-eq0.true) }
@@ -31,7 +32,7 @@ returns-then-sent-eq0 c =
 pub play_round-requires : goal.play_round-requires
 play_round-requires c =
     let a = c.args.schedule.now in
-    let n_high = (accepts a).n_high in
+    let n_high = (kept a).n_high in
     let at = c.loop-played in
     let room = at.invariant.0.room in
     let long = codes_long calls (given a) n_high at.played at.invariant.0 in
@@ -50,9 +51,9 @@ overflow_add-messages c =
 pub loop-played-preserved : goal.loop-played-preserved
 loop-played-preserved c =
     let a = c.args.schedule.now in
-    let n_high = (accepts a).n_high in
+    let n_high = (kept a).n_high in
     let at = c.loop-played in
-    let kept = at.invariant.2 in
+    let as_long = at.invariant.2 in
     let round = c.play_round.ensures in
     let counted = c.message_count-sent.ensures in
     let sent = sent_in calls (given a) n_high at.played at.invariant.0 counted.counted in (
@@ -65,4 +66,4 @@ pub returns : goal.returns
 returns c =
     let a = c.args.schedule.now in
     let at = c.loop-played in
-    record { played = ends_last fcwfa (given a) (accepts a).n_high (promises a).own_answers c.requires.rounds at.invariant.0.states at.invariant.1 c.loop-played-test.false }
+    record { played = ends_last fcwfa (given a) (kept a).n_high (promises a).own_answers c.requires.rounds at.invariant.0.states at.invariant.1 c.loop-played-test.false }
