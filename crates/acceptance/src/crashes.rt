@@ -22,14 +22,13 @@ pub fn crash_count(t: usize, crashes: &[u8]) -> Counted
     ensures looked_at { result.looked ≡ looked_at t crashes.now }
 {
     let mut count: usize = 0;
-    for (i, &crash) in crashes.iter().enumerate() {
-        count += bit(crash != 0) as usize;
+    // The loop goes by the place, and tests the count before the next crash round is read: with the test after it, the loop is
+    // compiled to two more steps for each process, and took up to half as much time again.
+    for i in 0..crashes.len() {
         if t < count {
-            return Counted {
-                count,
-                looked: i + 1,
-            };
+            return Counted { count, looked: i };
         }
+        count += bit(crashes[i] != 0) as usize;
     }
     Counted {
         count,
