@@ -10,35 +10,30 @@ use marked::Case;
 use refusals::Refusal;
 use schedule::Tables;
 use simulator::Counts;
-use std::io::{self, Print};
+use std::io::Print;
 
 // Every case has n = 4 and t = 3.
 const N: usize = 4;
 
 const T: usize = 3;
 
-// Where a line could not be written, nothing more is, and the exit status is 0 all the same.
+// A line that could not be written is left out: each line after it is tried, and the exit status is 0 all the same.
 fn main(rt: HostRuntime) {
-    let _ = show_all(&rt);
-}
-
-fn show_all(rt: &impl Print) -> io::Result<()> {
-    show_cases(rt)?;
-    println!(rt; "refused entry number")?;
-    show_refusals(rt)
+    show_cases(&rt);
+    let _ = println!(rt; "refused entry number");
+    show_refusals(&rt);
 }
 
 // Every case of the table, in order, under its letter.
-fn show_cases(rt: &impl Print) -> io::Result<()> {
+fn show_cases(rt: &impl Print) {
     for (letter, case) in ('A'..='Z').zip((0..).map_while(marked::case_at)) {
-        println!(rt; "case {letter}")?;
-        show_run(rt, &case)?;
+        let _ = println!(rt; "case {letter}");
+        show_run(rt, &case);
     }
-    Ok(())
 }
 
 // The run of a case, and whether the table has the same. The simulator fills the two answer tables.
-fn show_run(rt: &impl Print, case: &Case) -> io::Result<()> {
+fn show_run(rt: &impl Print, case: &Case) {
     let tables = Tables {
         n: N,
         t: T,
@@ -51,17 +46,12 @@ fn show_run(rt: &impl Print, case: &Case) -> io::Result<()> {
     let Ok(counts) = simulator::simulate(&tables, &mut decisions, &mut rounds) else {
         return show_difference(rt, false);
     };
-    show_report(rt, counts, decisions, rounds)?;
-    show_difference(rt, is_as_marked(case, counts, decisions, rounds))
+    show_report(rt, counts, decisions, rounds);
+    show_difference(rt, is_as_marked(case, counts, decisions, rounds));
 }
 
 // The report, in the lines that `bench` writes. It has less than 256 bytes.
-fn show_report(
-    rt: &impl Print,
-    counts: Counts,
-    decisions: [u8; N],
-    rounds: [u8; N],
-) -> io::Result<()> {
+fn show_report(rt: &impl Print, counts: Counts, decisions: [u8; N], rounds: [u8; N]) {
     let mut bytes = [0u8; 256];
     let mut out = Writer {
         buffer: &mut bytes,
@@ -69,7 +59,7 @@ fn show_report(
     };
     report::put_report(&mut out, T, counts, &decisions, &rounds);
     let end = out.at;
-    rt.write_all(&bytes[..end])
+    let _ = rt.write_all(&bytes[..end]);
 }
 
 // Whether these are the results that the table has for the case. The counts are compared one by one, since the table
@@ -84,13 +74,12 @@ fn is_as_marked(case: &Case, counts: Counts, decisions: [u8; N], rounds: [u8; N]
 }
 
 // Every refused schedule of the table, in order: its place, counted from 1, and the number that the simulator answers.
-fn show_refusals(rt: &impl Print) -> io::Result<()> {
+fn show_refusals(rt: &impl Print) {
     for (k, refusal) in (0..).map_while(refusals::refusal_at).enumerate() {
         let answer = answer_to(&refusal);
-        println!(rt; "{} {}", k + 1, comes_to(&answer))?;
-        show_difference(rt, answer == refusal.answer)?;
+        let _ = println!(rt; "{} {}", k + 1, comes_to(&answer));
+        show_difference(rt, answer == refusal.answer);
     }
-    Ok(())
 }
 
 // What the simulator answers. The tables have four places, and the processes are in the first n. They are given
@@ -110,9 +99,8 @@ fn answer_to(refusal: &Refusal) -> Result<(), Question> {
 }
 
 // A line more where the table has other results.
-fn show_difference(rt: &impl Print, is_same: bool) -> io::Result<()> {
-    if is_same {
-        return Ok(());
+fn show_difference(rt: &impl Print, is_same: bool) {
+    if !is_same {
+        let _ = println!(rt; "differs from the table");
     }
-    println!(rt; "differs from the table")
 }

@@ -6,7 +6,7 @@ use laws::comes_to;
 use member::Member;
 use sets::{Set, is_named};
 use std::fmt::{self, Display, Formatter};
-use std::io::{self, Print};
+use std::io::Print;
 
 // A digit for each process.
 #[derive(Clone, Copy)]
@@ -19,27 +19,23 @@ impl Display for Digits {
     }
 }
 
-// Where a line could not be written, nothing more is, and the exit status is 0 all the same.
+// A line that could not be written is left out: each line after it is tried, and the exit status is 0 all the same.
 fn main(rt: HostRuntime) {
-    let _ = show_all(&rt);
-}
-
-fn show_all(rt: &impl Print) -> io::Result<()> {
-    println!(rt; "round id says row estimate decided silent")?;
-    play_all(rt)?;
-    println!(rt; "call number")?;
-    refused_openings(rt)?;
-    refused_states(rt)?;
-    refused_rows(rt)
+    let _ = println!(rt; "round id says row estimate decided silent");
+    play_all(&rt);
+    let _ = println!(rt; "call number");
+    refused_openings(&rt);
+    refused_states(&rt);
+    refused_rows(&rt);
 }
 
 // Rounds 1 to t + 1, each from the states that the round before left.
-fn play_all(rt: &impl Print) -> io::Result<()> {
+fn play_all(rt: &impl Print) {
     let mut members = [1, 2, 3, 4].map(opened);
     for round in 1..=4 {
-        members = play(rt, members, round)?;
+        let next = play(rt, members, round);
+        members = next;
     }
-    Ok(())
 }
 
 fn a_member(round: u8, decided: u8) -> Member {
@@ -87,28 +83,28 @@ fn row_of(members: [Member; 4], hearer: usize, round: usize) -> [u8; 4] {
 
 // One round of all: every row comes from the states at its start. Process 1 is printed in its crash round alone,
 // in which it hears nothing.
-fn play(rt: &impl Print, members: [Member; 4], round: usize) -> io::Result<[Member; 4]> {
+fn play(rt: &impl Print, members: [Member; 4], round: usize) -> [Member; 4] {
     if round == 1 {
-        show(rt, members[0], "-", round, members[0])?;
+        show(rt, members[0], "-", round, members[0]);
     }
     let mut next = members;
     // By place, since a member and its row belong to it, and a line is printed for each in order.
     for place in 1..4 {
-        next[place] = step(rt, members[place], row_of(members, place, round), round)?;
+        next[place] = step(rt, members[place], row_of(members, place, round), round);
     }
-    Ok(next)
+    next
 }
 
 // A process hears its row of the round, and is printed with what it becomes. One that has stopped keeps its state.
-fn step(rt: &impl Print, m: Member, row: [u8; 4], round: usize) -> io::Result<Member> {
+fn step(rt: &impl Print, m: Member, row: [u8; 4], round: usize) -> Member {
     match hearing::hear(m, &row) {
         Ok(next) => {
-            show(rt, m, Digits(row), round, next)?;
-            Ok(next)
+            show(rt, m, Digits(row), round, next);
+            next
         }
         Err(refused) => {
-            show(rt, m, "-", round, refused.back)?;
-            Ok(refused.back)
+            show(rt, m, "-", round, refused.back);
+            refused.back
         }
     }
 }
@@ -119,25 +115,19 @@ fn silent(m: Member) -> Digits {
 }
 
 // One line of the first table: the round, the process, what it said and heard, and what it becomes.
-fn show(
-    rt: &impl Print,
-    before: Member,
-    row: impl Display + Drop,
-    round: usize,
-    after: Member,
-) -> io::Result<()> {
-    println!(rt;
+fn show(rt: &impl Print, before: Member, row: impl Display + Drop, round: usize, after: Member) {
+    let _ = println!(rt;
         "{round} {} {} {row} {} {} {}",
         before.id,
         said(before),
         after.estimate,
         after.decided,
         silent(after)
-    )
+    );
 }
 
 // Opening with each limit broken in turn, and with numbers at the far end of their types.
-fn refused_openings(rt: &impl Print) -> io::Result<()> {
+fn refused_openings(rt: &impl Print) {
     let openings = [
         (3, 3, 1, 1),
         (usize::MAX, 3, 1, 1),
@@ -149,38 +139,37 @@ fn refused_openings(rt: &impl Print) -> io::Result<()> {
         (4, 3, 1, 255),
     ];
     for (n, t, id, vote) in openings {
-        println!(rt; "open {}", comes_to(&member::open(n, t, id, vote)))?;
+        let _ = println!(rt; "open {}", comes_to(&member::open(n, t, id, vote)));
     }
-    Ok(())
 }
 
 // States that are not in range, said and heard.
-fn refused_states(rt: &impl Print) -> io::Result<()> {
-    show_say(rt, a_member(0, 0))?;
-    show_say(rt, a_member(255, 255))?;
-    show_hear(rt, a_member(5, 0), b"\x02\x02\x02\x02")?;
-    show_hear(rt, a_member(255, 255), b"")?;
-    show_hear(rt, a_member(5, 4), b"\x00\x00\x00\x00")?;
-    show_say(rt, naming(1))?;
-    show_say(rt, naming(16))?;
-    show_hear(rt, naming(u64::MAX), b"\x02\x02\x02\x02")
+fn refused_states(rt: &impl Print) {
+    show_say(rt, a_member(0, 0));
+    show_say(rt, a_member(255, 255));
+    show_hear(rt, a_member(5, 0), b"\x02\x02\x02\x02");
+    show_hear(rt, a_member(255, 255), b"");
+    show_hear(rt, a_member(5, 4), b"\x00\x00\x00\x00");
+    show_say(rt, naming(1));
+    show_say(rt, naming(16));
+    show_hear(rt, naming(u64::MAX), b"\x02\x02\x02\x02");
 }
 
-fn show_say(rt: &impl Print, m: Member) -> io::Result<()> {
-    println!(rt; "say {}", comes_to(&member::say(m)))
+fn show_say(rt: &impl Print, m: Member) {
+    let _ = println!(rt; "say {}", comes_to(&member::say(m)));
 }
 
 // Rows with each rule broken in turn, and one that is accepted.
-fn refused_rows(rt: &impl Print) -> io::Result<()> {
-    show_hear(rt, a_member(1, 0), b"\x02\x02\x02")?;
-    show_hear(rt, a_member(1, 0), b"\x02\x05\x02\x02")?;
-    show_hear(rt, a_member(1, 0), b"\x01\x02\x02\x02")?;
-    show_hear(rt, a_member(2, 0), b"\x02\x04\x02\x02")?;
-    show_hear(rt, a_member(3, 0), b"\x02\x03\x04\x02")?;
-    show_hear(rt, a_member(3, 0), b"\x02\x03\x03\x02")
+fn refused_rows(rt: &impl Print) {
+    show_hear(rt, a_member(1, 0), b"\x02\x02\x02");
+    show_hear(rt, a_member(1, 0), b"\x02\x05\x02\x02");
+    show_hear(rt, a_member(1, 0), b"\x01\x02\x02\x02");
+    show_hear(rt, a_member(2, 0), b"\x02\x04\x02\x02");
+    show_hear(rt, a_member(3, 0), b"\x02\x03\x04\x02");
+    show_hear(rt, a_member(3, 0), b"\x02\x03\x03\x02");
 }
 
-fn show_hear(rt: &impl Print, m: Member, row: &[u8]) -> io::Result<()> {
+fn show_hear(rt: &impl Print, m: Member, row: &[u8]) {
     let answer = hearing::hear(m, row).map_err(|refused| refused.question);
-    println!(rt; "hear {}", comes_to(&answer))
+    let _ = println!(rt; "hear {}", comes_to(&answer));
 }
