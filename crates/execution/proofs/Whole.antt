@@ -1,4 +1,4 @@
--- The whole call. A refused schedule leaves nobody and no message, and an accepted one what its rounds leave. Assumes nothing.
+-- The whole call: what the rounds of an accepted schedule leave. Assumes nothing.
 use mathlib.Core.Path.{◌≡◌, ap, ◌∙◌}
 use mathlib.Core.List.{List}
 use mathlib.Core.Bool.{Bool}

@@ -43,6 +43,6 @@ returns-then-buffer-text_length c =
 
 pub returns : goal.returns
 returns c =
-    let given = c.in_ok-schedule.schedule in
+    let lent = c.in_ok-schedule.schedule in
     let long = its_length (goal.at.returns c).After-text_length in
-    record { written = of_lent c.in_ok-schedule.ensures.same (writes (schedule_lent given.tables) _ given.accepted (omega arith) (search rules)) }
+    record { written = of_lent c.in_ok-schedule.ensures.same (writes (schedule_lent lent.tables) _ lent.accepted (omega arith) (search rules)) }
